@@ -1,0 +1,20 @@
+-- The worked verdicts, by computing.
+use mathlib.Core.Path.{refl}
+use Rattle.theory.specs.Sets.{contains, misses}
+use Rattle.theory.specs.Rules.{relates, total, fact, holds-body, holds-rule}
+use Rattle.theory.specs.Verdicts.{satisfies-rule, first-failing, lowest, lowest-inside, first-broken}
+use Rattle.theory.specs.Worked.{Worked}
+
+pub computed : Worked
+unfolding contains misses relates total fact holds-body holds-rule satisfies-rule first-failing lowest lowest-inside first-broken
+computed = record {
+  choice-both = refl;
+  choice-one = refl;
+  circle-both = refl;
+  not-fewer-flp = refl;
+  not-fewer-ferraris = refl;
+  none-without-flp = refl;
+  none-without-ferraris = refl;
+  empty-greatest-one = refl;
+  empty-greatest-none = refl;
+}

@@ -1,0 +1,4 @@
+pub mod SetLaws
+pub mod Computed
+pub mod Lawful
+pub mod BankLaws
