@@ -1,4 +1,5 @@
 pub mod SetLaws
+pub mod Lists
 pub mod Computed
 pub mod Lawful
 pub mod BankLaws
