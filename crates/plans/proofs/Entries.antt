@@ -11,7 +11,8 @@ use Rattle.std.proofs.shelf.Tests.{cond-true, cond-false, le-leb, lt-leb, ltb-f
 use Rattle.theory.specs.Banks.{Bank}
 use Rattle.theory.specs.Rules.{Rule}
 use Rattle.theory.specs.Calls.{Plan, Refused, rules-full, first-applying, rule-tests, tallies-tests, enter-refusal}
-use Rattle.plans.proofs.Firsts.{either-first, first-join}
+use Rattle.theory.proofs.Lists.{either-first}
+use Rattle.plans.proofs.Firsts.{first-join}
 use Rattle.plans.proofs.Untested.{none-all}
 
 module _ (bank : Bank) (plan : Plan) (rule : Rule) where

@@ -15,7 +15,8 @@ use Rattle.theory.specs.Lists.{every}
 use Rattle.theory.specs.Rules.{Element, Tally, Rule}
 use Rattle.theory.specs.Calls.{Test, Plan, first-applying, element-tests, elements-tests, field-tests, tally-tests, tallies-tests, rule-tests, refuse-if, rules-full, enter-refusal}
 use Rattle.plans.specs.Fits.{light, fit-tally, fit-rule}
-use Rattle.plans.proofs.Firsts.{either-first, first-join}
+use Rattle.theory.proofs.Lists.{either-first}
+use Rattle.plans.proofs.Firsts.{first-join}
 
 some-not : {A X : Type 0} (a : A) → None ≡ Some a → X
 some-not a e = let z : _≡_ {A = ℕ} 0 1 = cc in absurd (omega arith)

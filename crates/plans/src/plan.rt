@@ -13,6 +13,7 @@ mod store;
 
 /// The most atoms and the most rules that a plan has.
 pub const MAX_ATOMS: usize = 32;
+
 pub const MAX_RULES: usize = 64;
 
 /// An atom's name, to its last byte.

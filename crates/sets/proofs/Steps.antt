@@ -28,7 +28,7 @@ halves : (i j : ℕ) → Inside i j → Inside (i / 2) (j / 2) × (j % 2 ≤ i %
 halves i j e = (
   sym (and-shr i j 1) ∙ ap (λ (x : ℕ). x / 2) e,
   let same : bitAnd (i % 2) (j % 2) ≡ j % 2 = sym (and-mod i j 1) ∙ ap (λ (x : ℕ). x % 2) e in
-  omega (arith, and-le-l (i % 2) (j % 2)),
+      omega (arith, and-le-l (i % 2) (j % 2)),
 )
 
 -- one step of `and`, where the half of x is known

@@ -1,8 +1,6 @@
 // Sets of at most 32 atoms.
-ghost use Prim.Native.Nat.{_≤_};
 ghost use Rattle.sets.specs.Next.{Next};
 ghost use Rattle.theory.specs.Sets.{contains, misses, within};
-ghost use lib.Count.{ones};
 ghost use mathlib.Core.Bool.{true};
 ghost use mathlib.Core.Path.{_≡_};
 
@@ -32,13 +30,6 @@ impl AtomSet {
         ensures { λ r. ⌜ r ≡ within atoms (self .0) ⌝ }
     {
         bits::bounded(atoms, self.0)
-    }
-
-    /// How many atoms the set has.
-    pub fn count(self) -> u32
-        ensures { λ r. ⌜ r ≡ ones (self .0) ⌝ }
-    {
-        self.0.count_ones()
     }
 
     /// The subset of `whole` that follows this one in ascending order of their numbers.

@@ -131,7 +131,6 @@ smaller s m n c h k =
     let ne : m ≢ s = λ e. both-ways (has s n) (ap (λ (x : ℕ). has x n) (sym e) ∙ k) h in
     omega (arith, contains-le s m c)
 
-
 -- `within`, by members
 pub within-below : (k s n : ℕ) → within k s ≡ true → has s n ≡ true → n < k
 unfolding within

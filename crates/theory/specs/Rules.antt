@@ -81,9 +81,9 @@ counted s e = contains s (e .ins) && misses s (e .outs)
 abbrev pub met : Bank → ℕ → Tally → Bool
 met bank s t = as-signed (negates (t .sign)) (fact bank t (counted s))
 
-unfoldable pub holds-body : Bank → ℕ → Rule → Bool
+abbrev pub holds-body : Bank → ℕ → Rule → Bool
 holds-body bank s r = contains s (r .must) && (misses s (r .mustnot) && every (met bank s) (r .tallies))
 
 -- it does not hold the body, or it contains a head atom
-unfoldable pub holds-rule : Bank → ℕ → Rule → Bool
+abbrev pub holds-rule : Bank → ℕ → Rule → Bool
 holds-rule bank s r = not (holds-body bank s r) || not (misses s (r .head))

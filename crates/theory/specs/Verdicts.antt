@@ -20,7 +20,7 @@ passed bank r i j t = r .passes (negates (t .sign)) (fact bank t (counted i)) (f
 
 -- The reduct keeps the rules whose body I holds. J satisfies a kept rule unless J contains its must set, every tally
 -- passes and J has no head atom.
-unfoldable pub satisfies-rule : Bank → Reading → ℕ → ℕ → Rule → Bool
+abbrev pub satisfies-rule : Bank → Reading → ℕ → ℕ → Rule → Bool
 satisfies-rule bank r i j u =
     not (holds-body bank i u)
     || not (contains j (u .must) && (every (passed bank r i j) (u .tallies) && misses j (u .head)))

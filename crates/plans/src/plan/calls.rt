@@ -1,4 +1,5 @@
 // The calls of a plan: making it, name, enter, and looking at what it holds.
+ghost use Prim.Native.Nat.{_≤_};
 ghost use Rattle.plans.specs.Fits.{fit-rules};
 ghost use Rattle.plans.specs.PlanView.{planOf};
 ghost use Rattle.plans.specs.Refusals.{enterAnswerOf, nameAnswerOf};
@@ -64,9 +65,10 @@ impl<B: Bank> Plan<B> {
         self.atom_count()
     }
 
-    /// The rules in their places; their totals stay in range.
+    /// The rules in their places, at most 64; their totals stay in range.
     pub fn rules(&self) -> &[Rule]
         ensures value { λ r. ⌜ rulesOf (now r) ≡ planOf (now (self .entry)) .rules ⌝ }
+        ensures few { λ r. ⌜ length (now r) ≤ 64 ⌝ }
         ensures fit { λ r. ⌜ fit-rules (rulesOf (now r)) ≡ true ⌝ }
     {
         self.rules.as_slice()

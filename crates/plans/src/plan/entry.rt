@@ -22,8 +22,11 @@ use crate::rule::Tally;
 use banks::Bank;
 
 const MAX_TALLIES: usize = 2;
+
 const MAX_ELEMENTS: usize = 12;
+
 const MAX_BOUND: u32 = 12_000_000;
+
 const MAX_WEIGHT: u32 = 1_000_000;
 
 // Whether the value is at most this far from zero.

@@ -18,7 +18,7 @@ abbrev with-rules : Plan → List Rule → Plan
 with-rules p rules = record { names = p .names; rules = rules }
 
 -- the rules with the new one at the end
-pushed : (g : _) (c : After-push-reserved g) 
+pushed : (g : _) (c : After-push-reserved g)
     → rulesOf (vec-items (c .push-reserved .last .self)) ≡ rulesOf (vec-items (c .args .self .now .rules)) ++ ruleOf (c .args .rule) ∷ []
 pushed g c =
     ap rulesOf (c .push-reserved .ensures .items) ∙ map-push ruleOf (vec-items (c .args .self .now .rules)) (c .args .rule)
@@ -27,11 +27,22 @@ pub ghost-self : need.ghost-self
 ghost-self g c =
     let s = c .args .self .now in
     let few : vec-len (c .push-reserved .last .self) ≤ 64 = omega arith in
-    let room : 64 ≤ vec-cap (c .push-reserved .last .self) = omega arith in
-    (s .«few_names», (few, (s .«name_room», (room, (
-      ap fit-rules (pushed g (at·ghost-self g c .After-push-reserved)) ∙ every-push fit-rule (rulesOf (vec-items (s .rules))) (ruleOf (c .args .rule)) (s .fit) (c .pre .fit),
-      tt,
-    )))))
+    let room : 64 ≤ vec-cap (c .push-reserved .last .self) = omega arith in (
+      s .«few_names»,
+      (
+        few,
+        (
+          s .«name_room»,
+          (
+            room,
+            (
+              ap fit-rules (pushed g (at·ghost-self g c .After-push-reserved)) ∙ every-push fit-rule (rulesOf (vec-items (s .rules))) (ruleOf (c .args .rule)) (s .fit) (c .pre .fit),
+              tt,
+            ),
+          ),
+        ),
+      ),
+    )
 
 pub returns : need.returns
 returns g c =

@@ -8,7 +8,8 @@ use Rattle.std.proofs.shelf.Lists.{at-drop-all}
 use Rattle.theory.specs.Calls.{Refused, first-applying, element-tests, elements-tests}
 use Rattle.plans.specs.Views.{elementOf}
 use Rattle.plans.specs.declared.rule.Element.{Element}
-use Rattle.plans.proofs.Firsts.{either-first, first-join, numbered-turn, refused-by}
+use Rattle.theory.proofs.Lists.{either-first, numbered-turn}
+use Rattle.plans.proofs.Firsts.{first-join, refused-by}
 use Rattle.plans.proofs.plan.entry.check_elements.Needs as need
 
 abbrev blank : Element

@@ -8,7 +8,8 @@ use Rattle.theory.specs.Banks.{Bank}
 use Rattle.theory.specs.Calls.{Refused, first-applying, tally-tests, tallies-tests}
 use Rattle.plans.specs.Views.{tallyOf}
 use Rattle.plans.specs.declared.rule.Tally.{Tally}
-use Rattle.plans.proofs.Firsts.{either-first, first-join, numbered-turn, refused-by}
+use Rattle.theory.proofs.Lists.{either-first, numbered-turn}
+use Rattle.plans.proofs.Firsts.{first-join, refused-by}
 use Rattle.plans.proofs.plan.entry.check_tallies.Needs as need
 
 -- what the tally at a place gives, and what those from a place on give

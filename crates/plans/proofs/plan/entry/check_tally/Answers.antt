@@ -11,7 +11,8 @@ use Rattle.theory.specs.Rules.{Tally}
 use Rattle.theory.specs.Calls.{Refused, first-applying, field-tests, elements-tests, tally-tests}
 use Rattle.plans.specs.Views.{elementOf, tallyOf}
 use Rattle.plans.specs.declared.rule.Element.{Element as Stored}
-use Rattle.plans.proofs.Firsts.{either-first, first-join, refused-by}
+use Rattle.theory.proofs.Lists.{either-first}
+use Rattle.plans.proofs.Firsts.{first-join, refused-by}
 use Rattle.plans.proofs.Untested.{fields-few}
 use Rattle.plans.proofs.plan.entry.check_tally.Needs as need
 
