@@ -1,0 +1,15 @@
+use mathlib.Core.List.{map}
+use mathlib.Core.Path.{_≡_}
+use Prim.Native.Nat.{_-_, _≤_}
+use denote.Ref.{now}
+use Rattle.std.specs.Of.Vec.{vec-items, vec-len, vec-cap}
+use Rattle.plans.specs.Views.{tallyOf}
+use Rattle.files.specs.Records.{read-tally, repeated}
+use Rattle.files.proofs.Repeats.{with-more}
+use Rattle.files.proofs.reader.Reader.counted_tallies.Given as given
+
+-- as many were read as turns were made, there is room for all, and those read with those to come are all
+abbrev pub Inv-loop : given.InvT-loop
+Inv-loop l =
+    (vec-len (l .tallies) ≡ l .counter) × (l .count ≤ vec-cap (l .tallies))
+    × (with-more read-tally (map tallyOf (vec-items (l .tallies))) (l .count - l .counter) (now (l .self .rest)) ≡ repeated read-tally (l .count) (now (l .entry .self .rest)))
