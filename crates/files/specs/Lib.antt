@@ -3,3 +3,4 @@ pub mod Letters
 pub mod Fields
 pub mod Records
 pub mod Lines
+pub mod Plays

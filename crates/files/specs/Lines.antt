@@ -5,14 +5,25 @@ use Prim.Native.Nat.{ℕ, _+_, _/_, _%_}
 use lib.Chars.{codes}
 use lib.Dec.{ltb}
 use lib.ListN.{length, take, drop}
-use Rattle.judging.specs.declared.Verdict.{Verdict}
-use Rattle.judging.specs.declared.Verdict.the-variants.{Broken, Smaller, Stable}
+use Rattle.theory.specs.Verdicts.{Verdict, broken, smaller, stable}
+use Rattle.judging.specs.Answers.{verdictOf}
 use Rattle.files.specs.declared.fault.FileFault.{FileFault}
 use Rattle.files.specs.declared.fault.FileFault.the-variants.{Reader, Plan}
 use Rattle.files.specs.declared.fault.Located.{Located}
-use Rattle.files.specs.declared.line.Line.{Line}
-use Rattle.files.specs.declared.line.Line.the-variants.{Atom, Entered, Judged, Refusal}
+use Rattle.files.specs.declared.line.Answer.{Answer}
+use Rattle.files.specs.declared.line.Answer.the-variants.{Atom, Entered, Judged}
 use Rattle.files.specs.Faults.{faultNumber}
+
+-- what a call answers where it is not refused: the new atom's number, the new rule's place, the verdict
+pub data Said : Type 0 where
+  atom : ℕ → Said
+  entered : ℕ → Said
+  judged : Verdict → Said
+
+abbrev pub saidOf : Answer → Said
+saidOf (Atom n) = atom n
+saidOf (Entered place) = entered place
+saidOf (Judged v) = judged (verdictOf v)
 
 -- two decimal digits
 abbrev pub two-digits : ℕ → List ℕ
@@ -28,14 +39,24 @@ eight-hex n =
     hex-digit (n / 268435456 % 16) ∷ hex-digit (n / 16777216 % 16) ∷ hex-digit (n / 1048576 % 16) ∷ hex-digit (n / 65536 % 16)
     ∷ hex-digit (n / 4096 % 16) ∷ hex-digit (n / 256 % 16) ∷ hex-digit (n / 16 % 16) ∷ hex-digit (n % 16) ∷ []
 
--- a word, its two digits and the line's end
-abbrev pub numbered : List ℕ → ℕ → List ℕ
-numbered word n = word ++ (two-digits n ++ 10 ∷ [])
+-- every line ends with byte 10
+abbrev pub ended : List ℕ → List ℕ
+ended text = text ++ 10 ∷ []
 
-abbrev pub verdict-text : Verdict → List ℕ
-verdict-text (Broken place) = numbered (codes "BROKEN ") place
-verdict-text (Smaller set) = codes "SMALLER " ++ (eight-hex (set .0) ++ 10 ∷ [])
-verdict-text Stable = codes "STABLE" ++ 10 ∷ []
+abbrev pub verdict-line : Verdict → List ℕ
+verdict-line (broken place) = codes "BROKEN " ++ ended (two-digits place)
+verdict-line (smaller set) = codes "SMALLER " ++ ended (eight-hex set)
+verdict-line stable = ended (codes "STABLE")
+
+abbrev pub said-line : Said → List ℕ
+said-line (atom n) = codes "ATOM " ++ ended (two-digits n)
+said-line (entered place) = codes "RULE " ++ ended (two-digits place)
+said-line (judged v) = verdict-line v
+
+-- the refusal's number, the offset of the record's mark, and the places of the tally and of the element
+abbrev pub refusal-line : ℕ → ℕ → ℕ → ℕ → List ℕ
+refusal-line number offset tally element =
+    codes "NO " ++ (two-digits number ++ (32 ∷ (eight-hex offset ++ (32 ∷ (48 + tally % 10) ∷ 32 ∷ ended (two-digits element)))))
 
 -- the tally and the element place that enter tested, or zeros
 abbrev pub tally-tested : FileFault → ℕ
@@ -46,17 +67,8 @@ abbrev pub element-tested : FileFault → ℕ
 element-tested (Reader f) = 0
 element-tested (Plan f) = f .element
 
--- the fault's number, the offset of the record, the tally and the element
-abbrev pub refusal-text : Located → List ℕ
-refusal-text l =
-    codes "NO " ++ (two-digits (faultNumber (l .fault)) ++ (32 ∷ (eight-hex (l .offset)
-    ++ (32 ∷ (48 + tally-tested (l .fault) % 10) ∷ numbered (32 ∷ []) (element-tested (l .fault))))))
-
-abbrev pub line-text : Line → List ℕ
-line-text (Atom n) = numbered (codes "ATOM ") n
-line-text (Entered place) = numbered (codes "RULE ") place
-line-text (Judged v) = verdict-text v
-line-text (Refusal l) = refusal-text l
+abbrev pub located-line : Located → List ℕ
+located-line l = refusal-line (faultNumber (l .fault)) (l .offset) (tally-tested (l .fault)) (element-tested (l .fault))
 
 -- a text written into a report at an offset, and the rest as it was
 abbrev pub written : List ℕ → ℕ → List ℕ → List ℕ

@@ -3,10 +3,8 @@ ghost use Rattle.files.specs.Faults.{faultNumber, readerNumber};
 ghost use Rattle.files.specs.declared.fault.FileFault.the-variants.{Plan as OfPlan, Reader as OfReader};
 ghost use Rattle.files.specs.declared.fault.ReaderFault.the-variants.{NoMemory};
 ghost use mathlib.Core.Path.{_≡_};
-use plans::refusal::Refusal;
 use plans::refusal::Refused;
 use std::alloc::AllocError;
-use std::alloc::Refused as Unplaced;
 
 /// Why a record cannot be read.
 #[derive(Clone, Copy)]
@@ -49,14 +47,6 @@ pub impl From<AllocError> for ReaderFault as ReaderFromAlloc {
     }
 }
 
-pub impl<T: Drop> From<Unplaced<T>> for ReaderFault as ReaderFromUnplaced {
-    ghost converts = { λ _ r. r ≡ NoMemory };
-
-    fn from(_error: Unplaced<T>) -> ReaderFault {
-        ReaderFault::NoMemory
-    }
-}
-
 /// A fault met at a record: the layer that gave it, and the fault whole.
 #[derive(Clone, Copy)]
 pub enum FileFault {
@@ -89,18 +79,6 @@ pub impl From<Refused> for FileFault as FileFromRefused {
 
     fn from(refused: Refused) -> FileFault {
         FileFault::Plan(refused)
-    }
-}
-
-pub impl From<Refusal> for FileFault as FileFromRefusal {
-    ghost converts = { λ f r. r ≡ OfPlan (record { refusal = f; tally = 0; element = 0 }) };
-
-    fn from(refusal: Refusal) -> FileFault {
-        FileFault::Plan(Refused {
-            refusal,
-            tally: 0,
-            element: 0,
-        })
     }
 }
 

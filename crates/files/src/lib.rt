@@ -2,5 +2,6 @@
 pub mod fault;
 pub mod letter;
 pub mod line;
+pub mod play;
 pub mod reader;
 pub mod record;

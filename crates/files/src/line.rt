@@ -1,23 +1,22 @@
 // The lines of a report, and how they are written into it.
 ghost use Prim.Native.Nat.{_+_, _<_, _≤_};
-ghost use Rattle.files.specs.Lines.{eight-hex, element-tested, hex-digit, line-text, refusal-text, tally-tested, two-digits, verdict-text, written};
+ghost use Rattle.files.specs.Lines.{eight-hex, element-tested, hex-digit, located-line, said-line, saidOf, tally-tested, two-digits, verdict-line, written};
+ghost use Rattle.judging.specs.Answers.{verdictOf};
 ghost use lib.ListN.{length};
 ghost use mathlib.Core.Path.{_≡_};
 use crate::fault::FileFault;
 use crate::fault::Located;
 use judging::Verdict;
 
-/// What a record is answered with: one line.
+/// What a call answers where it is not refused.
 #[derive(Clone, Copy)]
-pub enum Line {
+pub enum Answer {
     /// The new atom's number.
     Atom(u8),
     /// The new rule's place.
     Entered(u8),
     /// What judge said.
     Judged(Verdict),
-    /// Why the record was refused.
-    Refusal(Located),
 }
 
 /// No line is longer, its end included.
@@ -68,13 +67,17 @@ fn put(report: &mut [u8], at: usize, text: &[u8]) -> usize
 
 fn put_verdict(report: &mut [u8], at: usize, verdict: Verdict) -> usize
     requires { ⌜ at + 20 ≤ length (now report) ⌝ }
-    ensures end { λ r. ⌜ r ≡ at + length (verdict-text verdict) ⌝ }
-    ensures after { λ _. ⌜ now (report .exit) ≡ written (now (report .entry)) at (verdict-text verdict) ⌝ }
+    ensures end { λ r. ⌜ r ≡ at + length (verdict-line (verdictOf verdict)) ⌝ }
+    ensures after { λ _. ⌜ now (report .exit) ≡ written (now (report .entry)) at (verdict-line (verdictOf verdict)) ⌝ }
 {
     match verdict {
         Verdict::Broken(place) => {
             let [t, o] = two_digits(place);
-            put(report, at, &[b'B', b'R', b'O', b'K', b'E', b'N', b' ', t, o, b'\n'])
+            put(
+                report,
+                at,
+                &[b'B', b'R', b'O', b'K', b'E', b'N', b' ', t, o, b'\n'],
+            )
         }
         Verdict::Smaller(set) => {
             let [a, b, c, d, e, f, g, h] = eight_hex(set.0);
@@ -82,7 +85,23 @@ fn put_verdict(report: &mut [u8], at: usize, verdict: Verdict) -> usize
                 report,
                 at,
                 &[
-                    b'S', b'M', b'A', b'L', b'L', b'E', b'R', b' ', a, b, c, d, e, f, g, h, b'\n',
+                    b'S',
+                    b'M',
+                    b'A',
+                    b'L',
+                    b'L',
+                    b'E',
+                    b'R',
+                    b' ',
+                    a,
+                    b,
+                    c,
+                    d,
+                    e,
+                    f,
+                    g,
+                    h,
+                    b'\n',
                 ],
             )
         }
@@ -99,10 +118,11 @@ fn places(fault: FileFault) -> (u8, u8)
     }
 }
 
-fn put_refusal(report: &mut [u8], at: usize, located: Located) -> usize
+/// The same for a refusal.
+pub fn put_refusal(report: &mut [u8], at: usize, located: Located) -> usize
     requires { ⌜ at + 20 ≤ length (now report) ⌝ }
-    ensures end { λ r. ⌜ r ≡ at + length (refusal-text located) ⌝ }
-    ensures after { λ _. ⌜ now (report .exit) ≡ written (now (report .entry)) at (refusal-text located) ⌝ }
+    ensures end { λ r. ⌜ r ≡ at + length (located-line located) ⌝ }
+    ensures after { λ _. ⌜ now (report .exit) ≡ written (now (report .entry)) at (located-line located) ⌝ }
 {
     let [t, o] = two_digits(located.fault.number());
     let [a, b, c, d, e, f, g, h] = eight_hex(located.offset);
@@ -112,27 +132,45 @@ fn put_refusal(report: &mut [u8], at: usize, located: Located) -> usize
         report,
         at,
         &[
-            b'N', b'O', b' ', t, o, b' ', a, b, c, d, e, f, g, h, b' ', b'0' + tally % 10, b' ', v, w, b'\n',
+            b'N',
+            b'O',
+            b' ',
+            t,
+            o,
+            b' ',
+            a,
+            b,
+            c,
+            d,
+            e,
+            f,
+            g,
+            h,
+            b' ',
+            b'0' + tally % 10,
+            b' ',
+            v,
+            w,
+            b'\n',
         ],
     )
 }
 
-/// Writes a line at an offset that has room for it, and gives the offset after it.
-pub fn put_line(report: &mut [u8], at: usize, line: Line) -> usize
+/// Writes the line of an answer at an offset that has room for it, and gives the offset after it.
+pub fn put_answer(report: &mut [u8], at: usize, answer: Answer) -> usize
     requires { ⌜ at + 20 ≤ length (now report) ⌝ }
-    ensures end { λ r. ⌜ r ≡ at + length (line-text line) ⌝ }
-    ensures after { λ _. ⌜ now (report .exit) ≡ written (now (report .entry)) at (line-text line) ⌝ }
+    ensures end { λ r. ⌜ r ≡ at + length (said-line (saidOf answer)) ⌝ }
+    ensures after { λ _. ⌜ now (report .exit) ≡ written (now (report .entry)) at (said-line (saidOf answer)) ⌝ }
 {
-    match line {
-        Line::Atom(n) => {
+    match answer {
+        Answer::Atom(n) => {
             let [t, o] = two_digits(n);
             put(report, at, &[b'A', b'T', b'O', b'M', b' ', t, o, b'\n'])
         }
-        Line::Entered(place) => {
+        Answer::Entered(place) => {
             let [t, o] = two_digits(place);
             put(report, at, &[b'R', b'U', b'L', b'E', b' ', t, o, b'\n'])
         }
-        Line::Judged(verdict) => put_verdict(report, at, verdict),
-        Line::Refusal(located) => put_refusal(report, at, located),
+        Answer::Judged(verdict) => put_verdict(report, at, verdict),
     }
 }

@@ -21,6 +21,7 @@ use sets::AtomSet;
 use std::alloc::Global;
 
 const MAX_TALLIES: u8 = 2;
+
 const MAX_ELEMENTS: u8 = 12;
 
 /// The two bytes that a record, or a part of a rule, begins with.

@@ -68,3 +68,16 @@ pub struct Refused {
     pub tally: u8,
     pub element: u8,
 }
+
+/// A refusal of a call that tests no tally.
+pub impl From<Refusal> for Refused as RefusedFromRefusal {
+    ghost converts = { λ f r. r ≡ record { refusal = f; tally = 0; element = 0 } };
+
+    fn from(refusal: Refusal) -> Refused {
+        Refused {
+            refusal,
+            tally: 0,
+            element: 0,
+        }
+    }
+}
