@@ -1,5 +1,3 @@
-pub mod Repeats
-pub mod Shrinks
 pub mod Stepped
 pub mod Playing
 pub mod Rounds

@@ -12,13 +12,13 @@ use Rattle.std.proofs.shelf.Tests.{cond-true, cond-false, cases-lt, eq-eqb, ne-
 use Rattle.std.specs.declared.result.Result.{Result}
 use Rattle.theory.specs.Banks.{Bank}
 use Rattle.theory.specs.Calls.{Plan, Refused}
-use Rattle.files.specs.declared.fault.ReaderFault.{ReaderFault}
-use Rattle.files.specs.Faults.{readerNumber}
-use Rattle.files.specs.Fields.{Read, got, failed}
+use Rattle.records.specs.declared.fault.ReaderFault.{ReaderFault}
+use Rattle.records.specs.Faults.{readerNumber}
+use Rattle.records.specs.Fields.{Read, got, failed}
 use Rattle.files.specs.Lines.{Said, refusal-line, written}
-use Rattle.files.specs.Records.{Sent, read-record}
+use Rattle.records.specs.Records.{Sent, read-record}
 use Rattle.files.specs.Plays.{Step, answered, unread, by-record, step, Outcome, ends, after-line, line-at, play-from, over}
-use Rattle.files.proofs.Shrinks.{Fewer, record-fewer}
+use Rattle.records.proofs.Shrinks.{Fewer, record-fewer}
 
 -- a record leaves fewer bytes
 abbrev pub Shorter : ℕ → Step → Type 0

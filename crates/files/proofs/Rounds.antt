@@ -18,7 +18,8 @@ use Rattle.theory.specs.Calls.{Plan, Refused}
 use Rattle.theory.specs.Verdicts.{Verdict, broken, smaller, stable}
 use Rattle.files.specs.declared.play.PlayFault.{PlayFault}
 use Rattle.files.specs.declared.play.PlayFault.the-variants.{InputTooLong, ReportFull, NoMemory as OutOfMemory, Unreadable}
-use Rattle.files.specs.Faults.{faultNumber, readerNumber}
+use Rattle.records.specs.Faults.{readerNumber}
+use Rattle.files.specs.Faults.{faultNumber}
 use Rattle.files.specs.Lines.{Said, atom, entered, judged, refusal-line, written}
 use Rattle.files.specs.Plays.{answered, unread, step, Outcome, ends, after-line, line-at, play-from, over, Exactly, Partly, Plays, Lined, Unlined, Goes-on, Stops, RecordPlayed}
 use Rattle.files.proofs.Playing.{Shorter, step-shorter, play-done, play-full, play-on, play-stop, over-more, after-more}

@@ -11,18 +11,19 @@ use Rattle.theory.specs.Banks.{Bank}
 use Rattle.theory.specs.Calls.{Plan, Refused}
 use Rattle.plans.specs.Refusals.{refusedOf}
 use Rattle.plans.specs.declared.refusal.Refused.{Refused as Stored-refused}
-use Rattle.files.specs.declared.fault.ReaderFault.{ReaderFault}
-use Rattle.files.specs.declared.fault.ReaderFault.the-variants.{NoMemory}
+use Rattle.records.specs.declared.fault.ReaderFault.{ReaderFault}
+use Rattle.records.specs.declared.fault.ReaderFault.the-variants.{NoMemory}
 use Rattle.files.specs.declared.fault.FileFault.{FileFault}
 use Rattle.files.specs.declared.fault.FileFault.the-variants.{Reader, Plan as OfPlan}
 use Rattle.files.specs.declared.line.Answer.{Answer}
-use Rattle.files.specs.Fields.{Read, got, failed}
+use Rattle.records.specs.Fields.{Read, got, failed}
 use Rattle.files.specs.declared.fault.Located.{Located}
 use Rattle.files.specs.declared.play.PlayFault.{PlayFault}
 use Rattle.files.specs.declared.play.PlayFault.the-variants.{InputTooLong, ReportFull, NoMemory as OutOfMemory, Unreadable}
-use Rattle.files.specs.Faults.{readerNumber, faultNumber}
+use Rattle.records.specs.Faults.{readerNumber}
+use Rattle.files.specs.Faults.{faultNumber}
 use Rattle.files.specs.Lines.{Said, refusal-line}
-use Rattle.files.specs.Records.{Sent, read-record}
+use Rattle.records.specs.Records.{Sent, read-record}
 use Rattle.files.specs.Plays.{Step, answered, unread, called, after-call, by-record, step, Steps, Lined, FaultPut, RecordPlayed}
 
 module _ (bank : Bank) (plan : Plan) (bytes : List ℕ) where

@@ -15,20 +15,21 @@ use Rattle.theory.specs.Verdicts.{Verdict}
 use Rattle.theory.specs.Calls.{Plan, Refusal, Refused, number, new-plan, name-answer, after-name, enter-answer, after-enter, judge-answer}
 use Rattle.plans.specs.Refusals.{refusedOf}
 use Rattle.plans.specs.declared.refusal.Refused.{Refused as Stored-refused}
-use Rattle.files.specs.declared.fault.ReaderFault.{ReaderFault}
-use Rattle.files.specs.declared.fault.ReaderFault.the-variants.{NoMemory}
+use Rattle.records.specs.declared.fault.ReaderFault.{ReaderFault}
+use Rattle.records.specs.declared.fault.ReaderFault.the-variants.{NoMemory}
 use Rattle.files.specs.declared.fault.FileFault.{FileFault}
 use Rattle.files.specs.declared.fault.FileFault.the-variants.{Reader, Plan as OfPlan}
 use Rattle.files.specs.declared.fault.Located.{Located}
-use Rattle.files.specs.declared.letter.ReadingName.{ReadingName}
-use Rattle.files.specs.declared.letter.ReadingName.the-variants.{Flp, Ferraris}
+use Rattle.records.specs.declared.letter.ReadingName.{ReadingName}
+use Rattle.records.specs.declared.letter.ReadingName.the-variants.{Flp, Ferraris}
 use Rattle.files.specs.declared.line.Answer.{Answer}
 use Rattle.files.specs.declared.play.PlayFault.{PlayFault}
 use Rattle.files.specs.declared.play.PlayFault.the-variants.{InputTooLong, ReportFull, NoMemory as OutOfMemory, Unreadable}
-use Rattle.files.specs.Faults.{readerNumber, faultNumber}
-use Rattle.files.specs.Fields.{Read, got, failed}
+use Rattle.records.specs.Faults.{readerNumber}
+use Rattle.files.specs.Faults.{faultNumber}
+use Rattle.records.specs.Fields.{Read, got, failed}
 use Rattle.files.specs.Lines.{Said, atom, entered, judged, saidOf, said-line, refusal-line, written}
-use Rattle.files.specs.Records.{Sent, name-sent, rule-sent, judge-sent, read-record}
+use Rattle.records.specs.Records.{Sent, name-sent, rule-sent, judge-sent, read-record}
 
 -- ---- a record's call on a plan over a bank
 abbrev pub reading-of : ReadingName → Reading

@@ -1,7 +1,4 @@
-// Files of records, and the report of playing one.
+// Playing a file of records, and the report of it.
 pub mod fault;
-pub mod letter;
 pub mod line;
 pub mod play;
-pub mod reader;
-pub mod record;

@@ -1,7 +1,7 @@
 use mathlib.Core.Path.{refl}
 use denote.Ref.{now}
 use Rattle.plans.specs.PlanView.{planOf}
-use Rattle.files.specs.Records.{recordOf}
+use Rattle.records.specs.Records.{recordOf}
 use Rattle.files.proofs.Stepped.{step-got, step-failed, reader-fault, plan-fault}
 use Rattle.files.proofs.play.answered.Needs as need
 

@@ -7,10 +7,10 @@ use Rattle.std.specs.Of.Vec.{vec-items}
 use Rattle.std.proofs.shelf.Lists.{map-push}
 use Rattle.theory.specs.Rules.{Tally}
 use Rattle.plans.specs.Views.{tallyOf}
-use Rattle.files.specs.Fields.{Read}
-use Rattle.files.specs.Records.{read-tally}
-use Rattle.files.proofs.Repeats.{with-more, repeat-none, repeat-more, repeat-failed, repeat-all, passed-on}
-use Rattle.files.proofs.reader.Reader.counted_tallies.Needs as need
+use Rattle.records.specs.Fields.{Read}
+use Rattle.records.specs.Records.{read-tally}
+use Rattle.records.proofs.Repeats.{with-more, repeat-none, repeat-more, repeat-failed, repeat-all, passed-on}
+use Rattle.records.proofs.reader.Reader.counted_tallies.Needs as need
 
 pub loop-holds : need.loop-holds
 loop-holds c =

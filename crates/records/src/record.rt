@@ -1,7 +1,7 @@
 // The records of a file, each read whole.
 ghost use Prim.Native.Nat.{_<_, _≤_};
-ghost use Rattle.files.specs.Fields.{read-word, readIn};
-ghost use Rattle.files.specs.Records.{Reads, expect, is-element, is-tally, mark-of, read-element, read-elements, read-judge, read-mark, read-name, read-record, read-rule, read-tallies, read-tally, recordOf, repeated};
+ghost use Rattle.records.specs.Fields.{read-word, readIn};
+ghost use Rattle.records.specs.Records.{Reads, expect, is-element, is-tally, mark-of, read-element, read-elements, read-judge, read-mark, read-name, read-record, read-rule, read-tallies, read-tally, recordOf, repeated};
 ghost use Rattle.plans.specs.Views.{elementOf, ruleOf, tallyOf};
 ghost use Rattle.std.specs.Of.Vec.{vec-items};
 ghost use lib.ListN.{length};

@@ -4,9 +4,9 @@ use Prim.Native.Nat.{_-_, _≤_}
 use denote.Ref.{now}
 use Rattle.std.specs.Of.Vec.{vec-items, vec-len, vec-cap}
 use Rattle.plans.specs.Views.{elementOf}
-use Rattle.files.specs.Records.{read-element, repeated}
-use Rattle.files.proofs.Repeats.{with-more}
-use Rattle.files.proofs.reader.Reader.counted_elements.Given as given
+use Rattle.records.specs.Records.{read-element, repeated}
+use Rattle.records.proofs.Repeats.{with-more}
+use Rattle.records.proofs.reader.Reader.counted_elements.Given as given
 
 -- as many were read as turns were made, there is room for all, and those read with those to come are all
 abbrev pub Inv-loop : given.InvT-loop

@@ -11,15 +11,15 @@ use Rattle.std.specs.declared.result.Result.the-variants.{Ok, Err}
 use Rattle.theory.specs.Rules.{Element, Tally, Rule}
 use Rattle.theory.specs.Calls.{relation-coded, sign-coded}
 use Rattle.plans.specs.Views.{ruleOf}
-use Rattle.files.specs.declared.fault.ReaderFault.{ReaderFault}
-use Rattle.files.specs.declared.fault.ReaderFault.the-variants.{UnknownMark, TooManyTallies, TooManyElements, NoMemory}
-use Rattle.files.specs.declared.letter.ReadingName.{ReadingName}
-use Rattle.files.specs.declared.record.Mark.{Mark}
-use Rattle.files.specs.declared.record.Mark.the-variants.{Name as NA, Rule as RU, Tally as TA, Element as EL, Judge as JU}
-use Rattle.files.specs.declared.record.Record.{Record}
-use Rattle.files.specs.declared.record.Record.the-variants.{Name, Rule as Whole-rule, Judge}
-use Rattle.files.specs.Fields.{Read, got, failed, and-then, readIn, read-slice, read-byte, read-word, read-signed}
-use Rattle.files.specs.Letters.{letterAnswer}
+use Rattle.records.specs.declared.fault.ReaderFault.{ReaderFault}
+use Rattle.records.specs.declared.fault.ReaderFault.the-variants.{UnknownMark, TooManyTallies, TooManyElements, NoMemory}
+use Rattle.records.specs.declared.letter.ReadingName.{ReadingName}
+use Rattle.records.specs.declared.record.Mark.{Mark}
+use Rattle.records.specs.declared.record.Mark.the-variants.{Name as NA, Rule as RU, Tally as TA, Element as EL, Judge as JU}
+use Rattle.records.specs.declared.record.Record.{Record}
+use Rattle.records.specs.declared.record.Record.the-variants.{Name, Rule as Whole-rule, Judge}
+use Rattle.records.specs.Fields.{Read, got, failed, and-then, readIn, read-slice, read-byte, read-word, read-signed}
+use Rattle.records.specs.Letters.{letterAnswer}
 
 -- what was answered, unless memory was wanting
 abbrev pub Reads : {X A : Type 0} → (X → A) → Result X ReaderFault → List ℕ → Read A → Type 0

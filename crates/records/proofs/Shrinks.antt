@@ -10,13 +10,13 @@ use Rattle.std.proofs.shelf.Lists.{length-drop}
 use Rattle.std.proofs.shelf.Tests.{cond-both, ltb-false}
 use Rattle.std.specs.declared.result.Result.{Result}
 use Rattle.std.specs.declared.result.Result.the-variants.{Ok, Err}
-use Rattle.files.specs.declared.fault.ReaderFault.{ReaderFault}
-use Rattle.files.specs.declared.fault.ReaderFault.the-variants.{Short, UnknownMark}
-use Rattle.files.specs.declared.record.Mark.{Mark}
-use Rattle.files.specs.declared.record.Mark.the-variants.{Name as NA, Rule as RU, Tally as TA, Element as EL, Judge as JU}
-use Rattle.files.specs.Fields.{Read, got, failed, and-then, readIn, read-slice, read-byte, read-word, read-signed}
-use Rattle.files.specs.Letters.{letterAnswer}
-use Rattle.files.specs.Records.{mark-of, read-mark, is-tally, is-element, expect, repeated, read-element, read-elements, read-tally, read-tallies, read-rule, read-name, read-judge, read-marked, read-record}
+use Rattle.records.specs.declared.fault.ReaderFault.{ReaderFault}
+use Rattle.records.specs.declared.fault.ReaderFault.the-variants.{Short, UnknownMark}
+use Rattle.records.specs.declared.record.Mark.{Mark}
+use Rattle.records.specs.declared.record.Mark.the-variants.{Name as NA, Rule as RU, Tally as TA, Element as EL, Judge as JU}
+use Rattle.records.specs.Fields.{Read, got, failed, and-then, readIn, read-slice, read-byte, read-word, read-signed}
+use Rattle.records.specs.Letters.{letterAnswer}
+use Rattle.records.specs.Records.{mark-of, read-mark, is-tally, is-element, expect, repeated, read-element, read-elements, read-tally, read-tallies, read-rule, read-name, read-judge, read-marked, read-record}
 
 -- at most n bytes are left
 abbrev Leaves : {A : Type 0} → ℕ → Read A → Type 0
