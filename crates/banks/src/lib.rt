@@ -1,6 +1,5 @@
 // Banks of kinds of totals: the interface, the plain banks, and banks made from banks.
 ghost use Rattle.theory.specs.Banks.{Bank as Meaning, Kind, Lawful-bank, Light, Near, counting, five-kinds, gaining, mirrored, paired, summing, topping};
-ghost use lib.IntN.{ℤ};
 ghost use mathlib.Core.Path.{_≡_};
 
 mod mirrors;

@@ -1,12 +1,12 @@
 -- A play, record by record.
-use mathlib.Core.Bool.{Bool, true, false, cond}
-use mathlib.Core.List.{List, [], _∷_, _++_}
+use mathlib.Core.Bool.{cond}
+use mathlib.Core.List.{List, [], _++_}
 use mathlib.Core.Logic.{inl, inr}
 use mathlib.Core.Path.{_≡_, refl, sym, ap, ap₂, subst, _∙_}
 use Prim.Native.Nat.{ℕ, zero, suc, _+_, _-_, _≤_, _<_}
 use native.Mathlib.Omega.{arith}
-use lib.Dec.{eqb, ltb}
-use lib.ListN.{length, take, drop}
+use lib.Dec.{ltb}
+use lib.ListN.{length, drop}
 use Rattle.std.proofs.shelf.Lists.{append-assoc, length-append, take-at, drop-at, drop-drop}
 use Rattle.std.proofs.shelf.Tests.{cond-true, cond-false, cases-lt, eq-eqb, ne-eqb, lt-ltb, le-ltb}
 use Rattle.std.specs.declared.result.Result.{Result}

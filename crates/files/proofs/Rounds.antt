@@ -1,6 +1,5 @@
 -- The loop over the records of a file.
-use mathlib.Core.Bool.{true}
-use mathlib.Core.List.{List, [], _∷_, _++_}
+use mathlib.Core.List.{List, [], _++_}
 use mathlib.Core.Path.{_≡_, refl, sym, ap, subst, _∙_}
 use Prim.Native.Nat.{ℕ, _+_, _-_, _≤_, _<_}
 use native.Mathlib.Omega.{arith}
@@ -8,20 +7,19 @@ use lib.Dec.{lit≤}
 use lib.ListN.{length, drop}
 use Rattle.std.specs.Results.{ErrBy, errPart}
 use Rattle.std.specs.declared.option.Option.{Option}
-use Rattle.std.specs.declared.option.Option.the-variants.{Some, None}
+use Rattle.std.specs.declared.option.Option.the-variants.{Some}
 use Rattle.std.specs.declared.result.Result.{Result}
 use Rattle.std.specs.declared.result.Result.the-variants.{Ok, Err}
 use Rattle.std.proofs.shelf.Lists.{length-append, length-drop, append-nil}
 use Rattle.std.proofs.shelf.Results.{err-from-errBy}
 use Rattle.theory.specs.Banks.{Bank}
 use Rattle.theory.specs.Calls.{Plan, Refused}
-use Rattle.theory.specs.Verdicts.{Verdict, broken, smaller, stable}
+use Rattle.theory.specs.Verdicts.{broken, smaller, stable}
 use Rattle.files.specs.declared.play.PlayFault.{PlayFault}
 use Rattle.files.specs.declared.play.PlayFault.the-variants.{InputTooLong, ReportFull, NoMemory as OutOfMemory, Unreadable}
-use Rattle.records.specs.Faults.{readerNumber}
 use Rattle.files.specs.Faults.{faultNumber}
 use Rattle.files.specs.Lines.{Said, atom, entered, judged, refusal-line, written}
-use Rattle.files.specs.Plays.{answered, unread, step, Outcome, ends, after-line, line-at, play-from, over, Exactly, Partly, Plays, Lined, Unlined, Goes-on, Stops, RecordPlayed}
+use Rattle.files.specs.Plays.{Outcome, ends, after-line, line-at, play-from, over, Exactly, Plays, Lined, Unlined, Goes-on, RecordPlayed}
 use Rattle.files.proofs.Playing.{Shorter, step-shorter, play-done, play-full, play-on, play-stop, over-more, after-more}
 
 -- no line is longer than 20 bytes

@@ -16,7 +16,7 @@ use Rattle.records.specs.declared.fault.ReaderFault.the-variants.{NoMemory}
 use Rattle.files.specs.declared.fault.FileFault.{FileFault}
 use Rattle.files.specs.declared.fault.FileFault.the-variants.{Reader, Plan as OfPlan}
 use Rattle.files.specs.declared.line.Answer.{Answer}
-use Rattle.records.specs.Fields.{Read, got, failed}
+use Rattle.records.specs.Fields.{got, failed}
 use Rattle.files.specs.declared.fault.Located.{Located}
 use Rattle.files.specs.declared.play.PlayFault.{PlayFault}
 use Rattle.files.specs.declared.play.PlayFault.the-variants.{InputTooLong, ReportFull, NoMemory as OutOfMemory, Unreadable}

@@ -1,6 +1,6 @@
 -- Playing a file: the calls that its records make on a new plan, the lines of the report, and the fault that ends it.
 use mathlib.Core.Bool.{cond}
-use mathlib.Core.List.{List, [], _∷_, _++_}
+use mathlib.Core.List.{List, [], _++_}
 use mathlib.Core.Path.{_≡_}
 use Prim.Native.Nat.{ℕ, zero, suc, _+_, _-_, _<_, _≤_}
 use lib.Dec.{eqb, ltb}
@@ -11,7 +11,6 @@ use Rattle.std.specs.declared.result.Result.{Result}
 use Rattle.std.specs.declared.result.Result.the-variants.{Ok, Err}
 use Rattle.theory.specs.Banks.{Bank, five-kinds}
 use Rattle.theory.specs.Readings.{Reading, flp, ferraris}
-use Rattle.theory.specs.Verdicts.{Verdict}
 use Rattle.theory.specs.Calls.{Plan, Refusal, Refused, number, new-plan, name-answer, after-name, enter-answer, after-enter, judge-answer}
 use Rattle.plans.specs.Refusals.{refusedOf}
 use Rattle.plans.specs.declared.refusal.Refused.{Refused as Stored-refused}

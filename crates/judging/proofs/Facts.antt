@@ -2,7 +2,7 @@
 use mathlib.Core.Bool.{Bool, true, false, _&&_}
 use mathlib.Core.List.{List, map}
 use mathlib.Core.Logic.{_⊎_, inl, inr}
-use mathlib.Core.Path.{_≡_, refl, sym, ap, _∙_}
+use mathlib.Core.Path.{_≡_, sym, ap, _∙_}
 use Prim.Native.Nat.{ℕ, _<_, _≤_}
 use native.Mathlib.Omega.{arith}
 use lib.IntN.{ℤ}
@@ -16,10 +16,10 @@ use Rattle.theory.specs.Lists.{every}
 use Rattle.theory.specs.Rules.{Tally, Element, relates, has-kind, total, fact}
 use Rattle.theory.specs.Readings.{Reading}
 use Rattle.theory.specs.Verdicts.{counts-at}
-use Rattle.plans.specs.Fits.{fit-tally, light}
-use Rattle.plans.specs.Views.{elementOf, tallyOf}
-use Rattle.plans.specs.declared.rule.Element.{Element as Stored-element}
-use Rattle.plans.specs.declared.rule.Tally.{Tally as Stored}
+use Rattle.rules.specs.Fits.{fit-tally, light}
+use Rattle.rules.specs.Views.{elementOf, tallyOf}
+use Rattle.rules.specs.declared.Element.{Element as Stored-element}
+use Rattle.rules.specs.declared.Tally.{Tally as Stored}
 use Rattle.judging.specs.Totals.{running}
 
 -- a kind that the bank does not have comes to no total

@@ -1,7 +1,7 @@
 -- A total, one element further.
 use mathlib.Core.Bool.{Bool, true, false, cond}
 use mathlib.Core.List.{List, [], _∷_, map}
-use mathlib.Core.Path.{_≡_, refl, sym, ap, _∙_}
+use mathlib.Core.Path.{_≡_, refl, ap, _∙_}
 use Prim.Native.Nat.{ℕ, zero, suc, _+_, _*_, _≤_, _<_}
 use native.Mathlib.Nat.{le-of-suc-le-suc}
 use native.Mathlib.Numerals.{add-one}
@@ -11,12 +11,12 @@ use lib.ListN.{length, getD, take}
 use Rattle.std.proofs.shelf.Tests.{and-parts, leb-true}
 use Rattle.theory.specs.Banks.{Bank, Kind, Lawful-bank}
 use Rattle.theory.specs.Lists.{every}
-use Rattle.theory.specs.Rules.{Element, total}
+use Rattle.theory.specs.Rules.{total}
 use Rattle.theory.specs.Readings.{Reading}
 use Rattle.theory.specs.Verdicts.{counts-at}
-use Rattle.plans.specs.Fits.{light}
-use Rattle.plans.specs.Views.{elementOf}
-use Rattle.plans.specs.declared.rule.Element.{Element as Stored}
+use Rattle.rules.specs.Fits.{light}
+use Rattle.rules.specs.Views.{elementOf}
+use Rattle.rules.specs.declared.Element.{Element as Stored}
 use Rattle.judging.specs.Totals.{running}
 
 abbrev pub blank : Stored

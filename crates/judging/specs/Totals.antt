@@ -6,8 +6,8 @@ use Rattle.theory.specs.Banks.{Bank}
 use Rattle.theory.specs.Rules.{total}
 use Rattle.theory.specs.Readings.{Reading}
 use Rattle.theory.specs.Verdicts.{counts-at}
-use Rattle.plans.specs.Views.{elementOf}
-use Rattle.plans.specs.declared.rule.Element.{Element as Stored}
+use Rattle.rules.specs.Views.{elementOf}
+use Rattle.rules.specs.declared.Element.{Element as Stored}
 
 unfoldable pub running : Bank → Reading → ℕ → ℕ → ℕ → List Stored → ℤ
 running bank reading i j kind elements = total bank kind (counts-at reading i j) (bank .empty kind) (map elementOf elements)

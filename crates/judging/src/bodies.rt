@@ -1,7 +1,7 @@
 // What a set meets and holds by the plain definition, and the first rule that it does not hold.
 ghost use Prim.Native.Nat.{_≤_};
-ghost use Rattle.plans.specs.Fits.{fit-rule, fit-rules, fit-tally};
-ghost use Rattle.plans.specs.Views.{ruleOf, rulesOf, tallyOf};
+ghost use Rattle.rules.specs.Fits.{fit-rule, fit-rules, fit-tally};
+ghost use Rattle.rules.specs.Views.{ruleOf, rulesOf, tallyOf};
 ghost use Rattle.theory.specs.Lists.{every};
 ghost use Rattle.theory.specs.Rules.{counted, fact, holds-body, holds-rule, met};
 ghost use Rattle.theory.specs.Verdicts.{first-broken};
@@ -11,10 +11,10 @@ ghost use mathlib.Core.List.{map};
 ghost use mathlib.Core.Path.{_≡_};
 use crate::totals::relation_holds;
 use banks::Bank;
-use plans::rule::Rule;
-use plans::rule::Tally;
 use readings::Flp;
 use readings::FlpReading;
+use rules::Rule;
+use rules::Tally;
 use sets::AtomSet;
 
 /// Whether the tally's relation holds for the set over the elements that it counts. At one set, every reading counts

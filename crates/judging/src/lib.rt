@@ -1,8 +1,8 @@
 // Judging a candidate: the first rule that it breaks, else the lowest proper subset that satisfies the reduct.
 ghost use Rattle.judging.specs.Answers.{judgeAnswerOf, verdictOf};
-ghost use Rattle.plans.specs.Fits.{fit-rules};
+ghost use Rattle.rules.specs.Fits.{fit-rules};
 ghost use Rattle.plans.specs.PlanView.{planOf};
-ghost use Rattle.plans.specs.Views.{rulesOf};
+ghost use Rattle.rules.specs.Views.{rulesOf};
 ghost use Rattle.theory.specs.Calls.{judge-answer};
 ghost use Rattle.theory.specs.Verdicts.{verdict};
 ghost use Prim.Native.Nat.{_≤_};
@@ -12,8 +12,8 @@ ghost use mathlib.Core.Path.{_≡_};
 use banks::Bank;
 use plans::plan::Plan;
 use plans::refusal::Refusal;
-use plans::rule::Rule;
 use readings::Reading;
+use rules::Rule;
 use sets::AtomSet;
 
 mod bodies;

@@ -1,7 +1,7 @@
 // Which subsets of a candidate satisfy its reduct, and the lowest of them.
 ghost use Rattle.judging.specs.Answers.{setIn};
-ghost use Rattle.plans.specs.Fits.{fit-rule, fit-rules, fit-tally};
-ghost use Rattle.plans.specs.Views.{ruleOf, rulesOf, tallyOf};
+ghost use Rattle.rules.specs.Fits.{fit-rule, fit-rules, fit-tally};
+ghost use Rattle.rules.specs.Views.{ruleOf, rulesOf, tallyOf};
 ghost use Rattle.theory.specs.Lists.{every};
 ghost use Rattle.theory.specs.Sets.{contains};
 ghost use Rattle.theory.specs.Verdicts.{lowest-inside, passed, satisfies, satisfies-rule};
@@ -12,9 +12,9 @@ use crate::bodies::body_holds;
 use crate::bodies::plainly_holds;
 use crate::totals::relation_holds;
 use banks::Bank;
-use plans::rule::Rule;
-use plans::rule::Tally;
 use readings::Reading;
+use rules::Rule;
+use rules::Tally;
 use sets::AtomSet;
 
 fn tally_passes<B: Bank, R: Reading>(

@@ -1,8 +1,8 @@
 // A tally's total over the elements that a reading counts, and whether its relation holds.
 ghost use Prim.Native.Nat.{_≤_};
 ghost use Rattle.judging.specs.Totals.{running};
-ghost use Rattle.plans.specs.Fits.{fit-tally, light};
-ghost use Rattle.plans.specs.Views.{elementOf, tallyOf};
+ghost use Rattle.rules.specs.Fits.{fit-tally, light};
+ghost use Rattle.rules.specs.Views.{elementOf, tallyOf};
 ghost use Rattle.theory.specs.Banks.{Kind};
 ghost use Rattle.theory.specs.Lists.{every};
 ghost use Rattle.theory.specs.Rules.{fact};
@@ -13,9 +13,9 @@ ghost use mathlib.Core.Bool.{true};
 ghost use mathlib.Core.List.{map};
 ghost use mathlib.Core.Path.{_≡_};
 use banks::Bank;
-use plans::rule::Element;
-use plans::rule::Tally;
 use readings::Reading;
+use rules::Element;
+use rules::Tally;
 use sets::AtomSet;
 
 /// The total of the elements that count for the subset, stepped through in their written order.

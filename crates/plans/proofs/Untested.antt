@@ -1,7 +1,7 @@
 -- What is known of a rule where no test of enter applies.
-use mathlib.Core.Bool.{Bool, true, false, not, cond, _&&_}
+use mathlib.Core.Bool.{Bool, true, false, cond}
 use mathlib.Core.List.{List, [], _∷_, _++_}
-use mathlib.Core.Path.{_≡_, refl, sym, _∙_}
+use mathlib.Core.Path.{_≡_, refl, _∙_}
 use Prim.Native.Nat.{ℕ, suc, _≤_}
 use native.Mathlib.Omega.{arith}
 use lib.Dec.{leb}
@@ -14,7 +14,7 @@ use Rattle.theory.specs.Banks.{Bank}
 use Rattle.theory.specs.Lists.{every}
 use Rattle.theory.specs.Rules.{Element, Tally, Rule}
 use Rattle.theory.specs.Calls.{Test, Plan, first-applying, element-tests, elements-tests, field-tests, tally-tests, tallies-tests, rule-tests, refuse-if, rules-full, enter-refusal}
-use Rattle.plans.specs.Fits.{light, fit-tally, fit-rule}
+use Rattle.rules.specs.Fits.{light, fit-tally, fit-rule}
 use Rattle.theory.proofs.Lists.{either-first}
 use Rattle.plans.proofs.Firsts.{first-join}
 

@@ -1,4 +1,2 @@
-pub mod Views
 pub mod Refusals
-pub mod Fits
 pub mod PlanView

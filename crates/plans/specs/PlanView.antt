@@ -4,7 +4,7 @@ use Prim.Native.Nat.{ℕ}
 use lib.ListN.{take}
 use Rattle.std.specs.Of.Vec.{vec-items}
 use Rattle.theory.specs.Calls as calls
-use Rattle.plans.specs.Views.{rulesOf}
+use Rattle.rules.specs.Views.{rulesOf}
 use Rattle.plans.specs.declared.plan.Name.{Name}
 use Rattle.plans.specs.declared.plan.Plan.{Plan}
 

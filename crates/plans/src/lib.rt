@@ -1,4 +1,3 @@
 // Plans over a bank: their atoms, their rules, and the calls that change them.
 pub mod plan;
 pub mod refusal;
-pub mod rule;

@@ -1,11 +1,11 @@
 // A plan: the names of its atoms and its rules, over one bank.
 ghost use Prim.Native.Nat.{_≤_};
-ghost use Rattle.plans.specs.Fits.{fit-rules};
-ghost use Rattle.plans.specs.Views.{rulesOf};
+ghost use Rattle.rules.specs.Fits.{fit-rules};
+ghost use Rattle.rules.specs.Views.{rulesOf};
 ghost use Rattle.std.specs.Of.Vec.{vec-cap, vec-items, vec-len};
 ghost use mathlib.Core.Bool.{true};
 ghost use mathlib.Core.Path.{_≡_};
-use crate::rule::Rule;
+use rules::Rule;
 
 pub mod calls;
 mod entry;

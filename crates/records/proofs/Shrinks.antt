@@ -1,7 +1,6 @@
 -- Reading goes forward: a record takes at least its mark.
 use mathlib.Core.Bool.{Bool, true, false, cond}
 use mathlib.Core.List.{List}
-use mathlib.Core.Path.{_≡_}
 use Prim.Native.Nat.{ℕ, zero, suc, _-_, _≤_, _<_}
 use native.Mathlib.Omega.{arith}
 use lib.Dec.{ltb}
@@ -16,7 +15,7 @@ use Rattle.records.specs.declared.record.Mark.{Mark}
 use Rattle.records.specs.declared.record.Mark.the-variants.{Name as NA, Rule as RU, Tally as TA, Element as EL, Judge as JU}
 use Rattle.records.specs.Fields.{Read, got, failed, and-then, readIn, read-slice, read-byte, read-word, read-signed}
 use Rattle.records.specs.Letters.{letterAnswer}
-use Rattle.records.specs.Records.{mark-of, read-mark, is-tally, is-element, expect, repeated, read-element, read-elements, read-tally, read-tallies, read-rule, read-name, read-judge, read-marked, read-record}
+use Rattle.records.specs.Records.{read-mark, is-tally, is-element, expect, repeated, read-element, read-elements, read-tally, read-tallies, read-rule, read-name, read-judge, read-marked, read-record}
 
 -- at most n bytes are left
 abbrev Leaves : {A : Type 0} → ℕ → Read A → Type 0

@@ -10,7 +10,7 @@ use Rattle.std.specs.declared.result.Result.{Result}
 use Rattle.std.specs.declared.result.Result.the-variants.{Ok, Err}
 use Rattle.theory.specs.Rules.{Element, Tally, Rule}
 use Rattle.theory.specs.Calls.{relation-coded, sign-coded}
-use Rattle.plans.specs.Views.{ruleOf}
+use Rattle.rules.specs.Views.{ruleOf}
 use Rattle.records.specs.declared.fault.ReaderFault.{ReaderFault}
 use Rattle.records.specs.declared.fault.ReaderFault.the-variants.{UnknownMark, TooManyTallies, TooManyElements, NoMemory}
 use Rattle.records.specs.declared.letter.ReadingName.{ReadingName}

@@ -1,7 +1,6 @@
 // A reader over the bytes of a file, and the fields of its records.
 ghost use Prim.Native.Nat.{_<_};
 ghost use Rattle.records.specs.Fields.{read-byte, read-signed, read-slice, read-word, readIn};
-ghost use lib.Dec.{eqb};
 ghost use lib.ListN.{length};
 ghost use mathlib.Core.Path.{_≡_};
 use crate::fault::ReaderFault;

@@ -1,10 +1,9 @@
 // The records of a file, each read whole.
-ghost use Prim.Native.Nat.{_<_, _≤_};
+ghost use Prim.Native.Nat.{_<_};
 ghost use Rattle.records.specs.Fields.{read-word, readIn};
 ghost use Rattle.records.specs.Records.{Reads, expect, is-element, is-tally, mark-of, read-element, read-elements, read-judge, read-mark, read-name, read-record, read-rule, read-tallies, read-tally, recordOf, repeated};
-ghost use Rattle.plans.specs.Views.{elementOf, ruleOf, tallyOf};
+ghost use Rattle.rules.specs.Views.{elementOf, ruleOf, tallyOf};
 ghost use Rattle.std.specs.Of.Vec.{vec-items};
-ghost use lib.ListN.{length};
 ghost use mathlib.Core.List.{map};
 ghost use mathlib.Core.Path.{_≡_};
 use crate::fault::ReaderFault;
@@ -12,11 +11,11 @@ use crate::fault::ReaderFromAlloc;
 use crate::letter::ReadingName;
 use crate::letter::reading_named;
 use crate::reader::Reader;
-use plans::rule::Element;
-use plans::rule::Relation;
-use plans::rule::Rule;
-use plans::rule::Sign;
-use plans::rule::Tally;
+use rules::Element;
+use rules::Relation;
+use rules::Rule;
+use rules::Sign;
+use rules::Tally;
 use sets::AtomSet;
 use std::alloc::Global;
 

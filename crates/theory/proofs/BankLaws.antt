@@ -8,7 +8,7 @@ use lib.IntN.{ℤ, pos, natAbs, negℤ, negℤ-negℤ}
 use lib.Signed.{ltZ}
 use Rattle.std.proofs.shelf.Signed.{ints}
 use Rattle.std.proofs.shelf.Tests.{leb-true, leb-false}
-use Rattle.theory.specs.Banks.{Bank, Kind, Light, Near, Lawful-bank, counting, summing, topping, greater, paired, mirrored, gaining, five-kinds}
+use Rattle.theory.specs.Banks.{Bank, Kind, Light, Near, Lawful-bank, counting, summing, topping, paired, mirrored, gaining, five-kinds}
 
 pub counting-lawful : Lawful-bank counting
 counting-lawful = record {

@@ -1,7 +1,6 @@
 -- Tests over lists.
-use mathlib.Core.Bool.{Bool, true, _&&_}
+use mathlib.Core.Bool.{Bool, true}
 use mathlib.Core.List.{List, [], _∷_, _++_, map}
-use mathlib.Core.Logic.{inl, inr}
 use mathlib.Core.Path.{_≡_, refl, sym, ap, _∙_}
 use Prim.Native.Nat.{ℕ, zero, suc, _+_, _<_}
 use native.Mathlib.Nat.{le-of-suc-le-suc}
@@ -11,13 +10,8 @@ use lib.ListN.{length, getD, drop}
 use Rattle.std.proofs.shelf.Lists.{at-drop-more}
 use Rattle.std.specs.declared.option.Option.{Option}
 use Rattle.std.specs.declared.option.Option.the-variants.{Some, None}
-use Rattle.std.specs.shelf.Lists.{All}
 use Rattle.std.proofs.shelf.Tests.{and-parts, and-from}
-use Rattle.theory.specs.Lists.{Among, every}
-
-pub every-all : {A : Type 0} (p : A → Bool) (xs : List A) → every p xs ≡ true → All (λ x. p x ≡ true) xs
-every-all p [] h = tt
-every-all p (x ∷ xs) h = (and-parts (p x) (every p xs) h .0, every-all p xs (and-parts (p x) (every p xs) h .1))
+use Rattle.theory.specs.Lists.{every}
 
 pub every-push : {A : Type 0} (p : A → Bool) (xs : List A) (y : A) → every p xs ≡ true → p y ≡ true → every p (xs ++ y ∷ []) ≡ true
 every-push p [] y h k = and-from (p y) true k refl

@@ -6,8 +6,8 @@ use Prim.Native.Nat.{ℕ, zero, suc, _+_, _<_, _≤_}
 use native.Mathlib.Omega.{arith}
 use Rattle.std.specs.declared.option.Option.{Option}
 use Rattle.std.specs.declared.option.Option.the-variants.{Some, None}
-use Rattle.std.proofs.shelf.Tests.{both-ways, cases-order}
-use mathlib.Core.Logic.{_⊎_, inl, inr}
+use Rattle.std.proofs.shelf.Tests.{cases-order}
+use mathlib.Core.Logic.{inl, inr}
 use Rattle.theory.specs.Verdicts.{first-failing, lowest}
 use Rattle.theory.proofs.Lists.{either-first}
 

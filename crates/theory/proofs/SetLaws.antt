@@ -1,14 +1,14 @@
 -- The laws of sets; after this file nobody opens `has`, `contains`, `misses` or `within`.
-use mathlib.Core.Bool.{Bool, true, false, not, _&&_, _||_, cond}
-use mathlib.Core.Logic.{_≢_, _⊎_, inl, inr, ⊎-elim}
-use mathlib.Core.Path.{_≡_, refl, sym, ap, ap₂, _∙_, subst}
-use Prim.Native.Nat.{ℕ, zero, suc, _+_, _*_, _/_, _%_, _^_, _≤_, _<_, min, max}
+use mathlib.Core.Bool.{Bool, true, false, _&&_}
+use mathlib.Core.Logic.{_⊎_, ⊎-elim}
+use mathlib.Core.Path.{_≡_, refl, sym, ap, ap₂, _∙_}
+use Prim.Native.Nat.{ℕ, zero, suc, _+_, _/_, _%_, _^_, _≤_, _<_, min}
 use native.Mathlib.Nat.{div-eq-of-lt, pow-suc}
 use lib.Pow.{pow-mono}
 use native.Mathlib.Omega.{arith}
 use lib.Arith.{bin-ind}
 use lib.Dec.{eqb}
-use lib.Bits.{bitAnd, bitOr, and-comm, and-le-l, and-shr, or-shr, and-step, or-step}
+use lib.Bits.{bitAnd, and-le-l, and-shr, and-step}
 use Rattle.std.proofs.shelf.Bits.{shr-shr}
 use Rattle.std.proofs.shelf.Tests.{eqb-true, eq-eqb, ltb-true, lt-ltb, and-parts, both-ways, cases-bool, cases-lt}
 use Rattle.std.proofs.shelf.Ways.{tells}
@@ -28,9 +28,6 @@ has-suc s n =
 digit-and : (x y : ℕ) → eqb (min (x % 2) (y % 2)) 1 ≡ (eqb (x % 2) 1 && eqb (y % 2) 1)
 digit-and x y = grind (arith, tells)
 
-digit-or : (x y : ℕ) → eqb (max (x % 2) (y % 2)) 1 ≡ (eqb (x % 2) 1 || eqb (y % 2) 1)
-digit-or x y = grind (arith, tells)
-
 pub has-and : (a b n : ℕ) → has (bitAnd a b) n ≡ (has a n && has b n)
 has-and a b zero =
     let e : bitAnd a b % 2 ≡ min (a % 2) (b % 2) = omega (arith, and-step a b) in
@@ -38,14 +35,6 @@ has-and a b zero =
 has-and a b (suc n) =
     has-suc (bitAnd a b) n ∙ ap (λ (x : ℕ). has x n) (and-shr a b 1)
     ∙ has-and (a / 2) (b / 2) n ∙ sym (ap₂ _&&_ (has-suc a n) (has-suc b n))
-
-pub has-or : (a b n : ℕ) → has (bitOr a b) n ≡ (has a n || has b n)
-has-or a b zero =
-    let e : bitOr a b % 2 ≡ max (a % 2) (b % 2) = omega (arith, or-step a b) in
-    has-zero (bitOr a b) ∙ ap (λ (x : ℕ). eqb x 1) e ∙ digit-or a b ∙ sym (ap₂ _||_ (has-zero a) (has-zero b))
-has-or a b (suc n) =
-    has-suc (bitOr a b) n ∙ ap (λ (x : ℕ). has x n) (or-shr a b 1)
-    ∙ has-or (a / 2) (b / 2) n ∙ sym (ap₂ _||_ (has-suc a n) (has-suc b n))
 
 pub has-none : (n : ℕ) → has 0 n ≡ false
 has-none zero = has-zero 0
@@ -71,17 +60,13 @@ ext = bin-ind (λ (a : ℕ). (b : ℕ) → ((n : ℕ) → has a n ≡ has b n) �
     step : (a : ℕ) → ((b : ℕ) → ((n : ℕ) → has (a / 2) n ≡ has b n) → a / 2 ≡ b) → (b : ℕ) → ((n : ℕ) → has a n ≡ has b n) → a ≡ b
     step a ih b h = omega (arith, ih (b / 2) (half a b h), low a b h)
 
--- a number below 2 ^ k has no member from k on, so below k is enough
+-- a number below 2 ^ k has no member from k on
 pub has-high : (s k n : ℕ) → s < 2 ^ k → k ≤ n → has s n ≡ false
 unfolding has
 has-high s k n h l =
     let b : s < 2 ^ n = omega (arith, pow-mono l) in
     let e : s / 2 ^ n ≡ 0 = div-eq-of-lt b in
     ap (λ (x : ℕ). eqb (x % 2) 1) e
-
-pub ext-below : (k a b : ℕ) → a < 2 ^ k → b < 2 ^ k → ((n : ℕ) → n < k → has a n ≡ has b n) → a ≡ b
-ext-below k a b ha hb f =
-    ext a b (λ n. ⊎-elim (f n) (λ l. has-high a k n ha l ∙ sym (has-high b k n hb l)) (cases-lt n k))
 
 -- `contains` and `misses`, by members
 pub contains-all : (s m n : ℕ) → contains s m ≡ true → has m n ≡ true → has s n ≡ true
@@ -113,23 +98,13 @@ misses-from s m f = eq-eqb (bitAnd s m) 0 (ext (bitAnd s m) 0 (λ n. has-and s m
     each true false h = refl
     each false y h = refl
 
--- sets inside each other are one number; a set inside another is no larger a number
-pub contains-both : (a b : ℕ) → contains a b ≡ true → contains b a ≡ true → a ≡ b
-unfolding contains
-contains-both a b p q = sym (eqb-true (bitAnd b a) a q) ∙ and-comm b a ∙ eqb-true (bitAnd a b) b p
-
+-- a set inside another is no larger a number
 pub contains-le : (s m : ℕ) → contains s m ≡ true → m ≤ s
 unfolding contains
 contains-le s m c = omega (arith, and-le-l s m, eqb-true (bitAnd s m) m c)
 
 pub contains-self : (s : ℕ) → contains s s ≡ true
 contains-self s = contains-from s s (λ n h. h)
-
--- a proper subset is a smaller number
-pub smaller : (s m n : ℕ) → contains s m ≡ true → has s n ≡ true → has m n ≡ false → m < s
-smaller s m n c h k =
-    let ne : m ≢ s = λ e. both-ways (has s n) (ap (λ (x : ℕ). has x n) (sym e) ∙ k) h in
-    omega (arith, contains-le s m c)
 
 -- `within`, by members
 pub within-below : (k s n : ℕ) → within k s ≡ true → has s n ≡ true → n < k

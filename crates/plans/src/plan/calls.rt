@@ -1,9 +1,9 @@
 // The calls of a plan: making it, name, enter, and looking at what it holds.
 ghost use Prim.Native.Nat.{_≤_};
-ghost use Rattle.plans.specs.Fits.{fit-rules};
+ghost use Rattle.rules.specs.Fits.{fit-rules};
 ghost use Rattle.plans.specs.PlanView.{planOf};
 ghost use Rattle.plans.specs.Refusals.{enterAnswerOf, nameAnswerOf};
-ghost use Rattle.plans.specs.Views.{ruleOf, rulesOf};
+ghost use Rattle.rules.specs.Views.{ruleOf, rulesOf};
 ghost use Rattle.std.specs.Vec.{made};
 ghost use Rattle.theory.specs.Calls.{after-enter, after-name, enter-answer, name-answer, new-plan};
 ghost use lib.ListN.{length};
@@ -14,8 +14,8 @@ use crate::plan::MAX_RULES;
 use crate::plan::Plan;
 use crate::refusal::Refusal;
 use crate::refusal::Refused;
-use crate::rule::Rule;
 use banks::Bank;
+use rules::Rule;
 use std::alloc::AllocError;
 use std::alloc::Global;
 

@@ -1,25 +1,25 @@
 // The tests that enter makes of a rule, in their order.
 ghost use Prim.Native.Nat.{_<_, _≤_};
-ghost use Rattle.plans.specs.Fits.{fit-rule};
+ghost use Rattle.rules.specs.Fits.{fit-rule};
 ghost use Rattle.plans.specs.PlanView.{planOf};
 ghost use Rattle.plans.specs.Refusals.{refusalIn};
-ghost use Rattle.plans.specs.Views.{elementOf, ruleOf, tallyOf};
-ghost use Rattle.std.specs.Of.Vec.{vec-items, vec-len};
+ghost use Rattle.rules.specs.Views.{elementOf, ruleOf, tallyOf};
+ghost use Rattle.std.specs.Of.Vec.{vec-len};
 ghost use Rattle.std.specs.Vec.{made};
 ghost use Rattle.theory.specs.Calls.{at-most-from-zero, element-tests, elements-tests, enter-refusal, field-tests, first-applying, rule-tests, tallies-tests, tally-tests};
 ghost use lib.Dec.{ltb};
 ghost use lib.ListN.{length};
 ghost use mathlib.Core.Bool.{true};
-ghost use mathlib.Core.List.{_++_, map};
+ghost use mathlib.Core.List.{map};
 ghost use mathlib.Core.Path.{_≡_};
 use crate::plan::MAX_RULES;
 use crate::plan::Plan;
 use crate::refusal::Refusal;
 use crate::refusal::Refused;
-use crate::rule::Element;
-use crate::rule::Rule;
-use crate::rule::Tally;
 use banks::Bank;
+use rules::Element;
+use rules::Rule;
+use rules::Tally;
 
 const MAX_TALLIES: usize = 2;
 

@@ -1,10 +1,10 @@
 // What a plan holds: names and rules put at their ends, and looked at.
 ghost use Prim.Native.Nat.{_+_, _<_, suc};
-ghost use Rattle.plans.specs.Fits.{fit-rule};
+ghost use Rattle.rules.specs.Fits.{fit-rule};
 ghost use Rattle.plans.specs.PlanView.{planOf, textOf, textsOf};
 ghost use Rattle.plans.specs.Refusals.{refusalOf};
-ghost use Rattle.plans.specs.Views.{ruleOf, rulesOf};
-ghost use Rattle.std.specs.Of.Vec.{vec-items, vec-len};
+ghost use Rattle.rules.specs.Views.{ruleOf};
+ghost use Rattle.std.specs.Of.Vec.{vec-len};
 ghost use Rattle.std.specs.Results.{Cases};
 ghost use Rattle.std.specs.declared.option.Option.the-variants.{None, Some};
 ghost use Rattle.theory.specs.Calls.{borne, first-applying, is-name-byte, name-refusal, text-tests};
@@ -17,7 +17,7 @@ use crate::plan::MAX_ATOMS;
 use crate::plan::Name;
 use crate::plan::Plan;
 use crate::refusal::Refusal;
-use crate::rule::Rule;
+use rules::Rule;
 
 fn is_name_byte(byte: u8) -> bool
     ensures { λ r. ⌜ r ≡ is-name-byte byte ⌝ }

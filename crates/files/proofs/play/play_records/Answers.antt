@@ -1,12 +1,12 @@
 use mathlib.Core.List.{List}
-use mathlib.Core.Path.{_≡_, refl, sym, subst, _∙_}
+use mathlib.Core.Path.{refl, sym, subst, _∙_}
 use Prim.Native.Nat.{ℕ, _-_, _<_}
 use native.Mathlib.Omega.{arith}
 use denote.Ref.{now}
 use lib.ListN.{length}
 use Rattle.std.specs.declared.result.Result.the-variants.{Ok, Err}
 use Rattle.plans.specs.PlanView.{planOf}
-use Rattle.files.specs.Plays.{RecordPlayed, play-from, step}
+use Rattle.files.specs.Plays.{RecordPlayed, play-from}
 use Rattle.files.proofs.Playing.{Shorter, step-shorter}
 use Rattle.files.proofs.Rounds.{So-far, so-far-none, so-far-more, so-far-done, so-far-ended, same-length, ended-by}
 use Rattle.files.proofs.play.play_records.Needs as need

@@ -10,9 +10,9 @@ use Rattle.theory.specs.Rules.{holds-rule}
 use Rattle.theory.specs.Verdicts.{first-failing, first-broken}
 use Rattle.theory.proofs.Lists.{either-first, every-map-at, numbered-turn}
 use Rattle.theory.proofs.Searches.{failing-at, failing-more, failing-none}
-use Rattle.plans.specs.Fits.{fit-rule}
-use Rattle.plans.specs.Views.{ruleOf, rulesOf}
-use Rattle.plans.specs.declared.rule.Rule.{Rule}
+use Rattle.rules.specs.Fits.{fit-rule}
+use Rattle.rules.specs.Views.{ruleOf, rulesOf}
+use Rattle.rules.specs.declared.Rule.{Rule}
 use Rattle.judging.proofs.bodies.first_broken_place.Needs as need
 
 -- what the rule at a place gives, and what those from a place on give

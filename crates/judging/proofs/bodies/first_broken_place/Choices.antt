@@ -3,7 +3,7 @@ use Prim.Native.Nat.{_+_}
 use lib.ListN.{drop}
 use Rattle.theory.specs.Rules.{holds-rule}
 use Rattle.theory.specs.Verdicts.{first-failing}
-use Rattle.plans.specs.Views.{rulesOf}
+use Rattle.rules.specs.Views.{rulesOf}
 use Rattle.judging.proofs.bodies.first_broken_place.Given as given
 
 -- the rules that are left decide

@@ -3,7 +3,7 @@ use mathlib.Core.Path.{_≡_}
 use lib.ListN.{drop}
 use Rattle.theory.specs.Lists.{every}
 use Rattle.theory.specs.Rules.{met}
-use Rattle.plans.specs.Views.{tallyOf}
+use Rattle.rules.specs.Views.{tallyOf}
 use Rattle.judging.proofs.bodies.meets_all.Given as given
 
 -- the tallies that are left decide

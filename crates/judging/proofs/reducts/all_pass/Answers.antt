@@ -3,8 +3,8 @@ use native.Mathlib.Omega.{arith}
 use Rattle.std.proofs.shelf.Lists.{at-drop-all}
 use Rattle.theory.specs.Verdicts.{passed}
 use Rattle.theory.proofs.Lists.{every-map-at}
-use Rattle.plans.specs.Fits.{fit-tally}
-use Rattle.plans.specs.Views.{tallyOf}
+use Rattle.rules.specs.Fits.{fit-tally}
+use Rattle.rules.specs.Views.{tallyOf}
 use Rattle.judging.proofs.Turns.{all-of, all-turn}
 use Rattle.judging.proofs.reducts.all_pass.Needs as need
 

@@ -3,7 +3,7 @@ use mathlib.Core.Path.{_≡_}
 use lib.ListN.{drop}
 use Rattle.theory.specs.Lists.{every}
 use Rattle.theory.specs.Verdicts.{passed}
-use Rattle.plans.specs.Views.{tallyOf}
+use Rattle.rules.specs.Views.{tallyOf}
 use Rattle.judging.proofs.reducts.all_pass.Given as given
 
 -- the tallies that are left decide

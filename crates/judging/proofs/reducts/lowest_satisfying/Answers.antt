@@ -1,7 +1,7 @@
-use mathlib.Core.Bool.{Bool, true, false, _&&_}
+use mathlib.Core.Bool.{false}
 use mathlib.Core.Logic.{inl, inr, ⊎-elim}
 use mathlib.Core.Path.{_≡_, sym, ap, _∙_}
-use Prim.Native.Nat.{ℕ, _<_, _≤_}
+use Prim.Native.Nat.{ℕ, _<_}
 use native.Mathlib.Omega.{arith}
 use Rattle.std.proofs.shelf.Tests.{both-ways, cases-bool, cases-order, and-from, and-left, and-right}
 use Rattle.sets.specs.Next.{Next}
@@ -12,7 +12,7 @@ use Rattle.theory.specs.Rules.{Rule}
 use Rattle.theory.specs.Verdicts.{fits-inside, satisfies, lowest-inside}
 use Rattle.theory.proofs.SetLaws.{contains-from, contains-le, has-none}
 use Rattle.theory.proofs.Searches.{lowest-found, lowest-none}
-use Rattle.plans.specs.Views.{rulesOf}
+use Rattle.rules.specs.Views.{rulesOf}
 use mathlib.Core.List.{List}
 use Rattle.judging.proofs.reducts.lowest_satisfying.Needs as need
 

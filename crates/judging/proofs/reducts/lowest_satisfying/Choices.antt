@@ -3,7 +3,7 @@ use mathlib.Core.Path.{_≡_}
 use Prim.Native.Nat.{ℕ, _-_, _<_}
 use Rattle.theory.specs.Sets.{contains}
 use Rattle.theory.specs.Verdicts.{fits-inside}
-use Rattle.plans.specs.Views.{rulesOf}
+use Rattle.rules.specs.Views.{rulesOf}
 use Rattle.judging.proofs.reducts.lowest_satisfying.Given as given
 
 -- the subset is inside the candidate, and nothing below it is inside and satisfies the reduct

@@ -3,8 +3,8 @@ use native.Mathlib.Omega.{arith}
 use Rattle.std.proofs.shelf.Lists.{at-drop-all}
 use Rattle.theory.specs.Verdicts.{satisfies-rule}
 use Rattle.theory.proofs.Lists.{every-map-at}
-use Rattle.plans.specs.Fits.{fit-rule}
-use Rattle.plans.specs.Views.{ruleOf}
+use Rattle.rules.specs.Fits.{fit-rule}
+use Rattle.rules.specs.Views.{ruleOf}
 use Rattle.judging.proofs.Turns.{all-of, all-turn}
 use Rattle.judging.proofs.reducts.reduct_satisfied.Needs as need
 

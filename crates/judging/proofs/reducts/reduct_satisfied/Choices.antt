@@ -1,7 +1,7 @@
 use mathlib.Core.Path.{_≡_}
 use lib.ListN.{drop}
 use Rattle.theory.specs.Verdicts.{satisfies}
-use Rattle.plans.specs.Views.{rulesOf}
+use Rattle.rules.specs.Views.{rulesOf}
 use Rattle.judging.proofs.reducts.reduct_satisfied.Given as given
 
 -- the rules that are left decide

@@ -2,12 +2,11 @@ use mathlib.Core.Logic.{inl, inr}
 use mathlib.Core.Path.{_∙_}
 use native.Mathlib.Omega.{arith}
 use borrow.Author.Needs.{needs}
-use lib.IntN.{ℤ}
 use mir.Syntax.{w32}
 use mir.Val.{SFits}
 use Rattle.std.proofs.shelf.Signed.{toZ-ofZ}
 use Rattle.theory.specs.Verdicts.{counts-at}
-use Rattle.plans.specs.Views.{tallyOf}
+use Rattle.rules.specs.Views.{tallyOf}
 use Rattle.judging.proofs.Facts.{no-fact, fact-is, fit-few, fit-light}
 use Rattle.judging.proofs.totals.relation_holds.Needs as need
 use Rattle.judging.proofs.totals.relation_holds.Needs.{then-tally-eq0·by·then-tally-eq0, then-tally-eq0·by·else-tally-eq0·then-tally-size}

@@ -1,4 +1,3 @@
-use mathlib.Core.Bool.{true}
 use mathlib.Core.List.{List, [], _∷_, _++_}
 use mathlib.Core.Path.{_≡_, refl, ap, _∙_}
 use Prim.Native.Nat.{_≤_}
@@ -8,8 +7,8 @@ use Rattle.std.proofs.shelf.Lists.{length-map, map-push}
 use Rattle.theory.specs.Calls.{Plan}
 use Rattle.theory.specs.Rules.{Rule}
 use Rattle.theory.proofs.Lists.{every-push}
-use Rattle.plans.specs.Fits.{fit-rule, fit-rules}
-use Rattle.plans.specs.Views.{ruleOf, rulesOf}
+use Rattle.rules.specs.Fits.{fit-rule, fit-rules}
+use Rattle.rules.specs.Views.{ruleOf, rulesOf}
 use Rattle.plans.specs.PlanView.{planOf}
 use Rattle.plans.proofs.plan.Plan.add_rule.Needs as need
 use Rattle.plans.proofs.plan.Plan.add_rule.Needs.{After-push-reserved, at·ghost-self, at·returns}

@@ -1,27 +1,24 @@
 use mathlib.Core.Bool.{true}
 use mathlib.Core.List.{List, map}
-use mathlib.Core.Path.{_≡_, refl, sym, ap, _∙_}
+use mathlib.Core.Path.{_≡_, ap, _∙_}
 use Prim.Native.Nat.{ℕ, _<_, _≤_}
 use native.Mathlib.Omega.{arith}
 use lib.ListN.{length}
 use Rattle.std.specs.Of.Vec.{vec-items}
 use Rattle.std.specs.Vec.{made}
-use Rattle.std.specs.Results.{isErr}
-use Rattle.std.specs.declared.option.Option.{Option}
-use Rattle.std.specs.declared.option.Option.the-variants.{Some, None}
 use Rattle.std.specs.declared.result.Result.{Result}
 use Rattle.std.specs.declared.result.Result.the-variants.{Ok, Err}
 use Rattle.std.proofs.shelf.Lists.{length-map}
 use Rattle.std.proofs.shelf.Results.{made-from-err}
-use Rattle.theory.specs.Calls.{Refused as Answer, Plan, first-applying, rule-tests, tallies-tests, enter-refusal}
+use Rattle.theory.specs.Calls.{Plan, first-applying, rule-tests, tallies-tests, enter-refusal}
 use Rattle.theory.specs.Banks.{Bank}
 use Rattle.theory.specs.Rules.{Rule}
-use Rattle.plans.specs.Fits.{fit-rule}
+use Rattle.rules.specs.Fits.{fit-rule}
 use Rattle.plans.specs.Refusals.{refusalIn}
-use Rattle.plans.specs.Views.{tallyOf, ruleOf}
+use Rattle.rules.specs.Views.{tallyOf, ruleOf}
 use Rattle.plans.specs.PlanView.{planOf}
 use Rattle.plans.specs.declared.refusal.Refused.{Refused}
-use Rattle.plans.specs.declared.rule.Tally.{Tally}
+use Rattle.rules.specs.declared.Tally.{Tally}
 use Rattle.plans.proofs.Firsts.{refused-by}
 use Rattle.plans.proofs.Untested.{entered-fit}
 use Rattle.plans.proofs.Entries.{entry-full, entry-joined, sets-few}

@@ -1,7 +1,7 @@
 use native.Mathlib.Omega.{arith}
 use Rattle.std.specs.Of.Vec.{vec-items}
 use Rattle.std.proofs.shelf.Lists.{length-map}
-use Rattle.plans.specs.Views.{ruleOf}
+use Rattle.rules.specs.Views.{ruleOf}
 use Rattle.plans.proofs.plan.Plan.rule_count.Needs as need
 
 pub returns : need.returns

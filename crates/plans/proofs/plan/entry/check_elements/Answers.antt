@@ -6,8 +6,8 @@ use lib.ListN.{drop, getD, length}
 use Rattle.std.specs.declared.option.Option.{Option}
 use Rattle.std.proofs.shelf.Lists.{at-drop-all}
 use Rattle.theory.specs.Calls.{Refused, first-applying, element-tests, elements-tests}
-use Rattle.plans.specs.Views.{elementOf}
-use Rattle.plans.specs.declared.rule.Element.{Element}
+use Rattle.rules.specs.Views.{elementOf}
+use Rattle.rules.specs.declared.Element.{Element}
 use Rattle.theory.proofs.Lists.{either-first, numbered-turn}
 use Rattle.plans.proofs.Firsts.{first-join, refused-by}
 use Rattle.plans.proofs.plan.entry.check_elements.Needs as need

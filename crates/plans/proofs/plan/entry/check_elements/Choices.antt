@@ -3,7 +3,7 @@ use mathlib.Core.Path.{_≡_}
 use Prim.Native.Nat.{_+_}
 use lib.ListN.{drop}
 use Rattle.theory.specs.Calls.{elements-tests, first-applying}
-use Rattle.plans.specs.Views.{elementOf}
+use Rattle.rules.specs.Views.{elementOf}
 use Rattle.plans.proofs.plan.entry.check_elements.Given as given
 
 -- the elements that are left decide

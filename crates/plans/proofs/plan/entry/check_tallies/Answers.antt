@@ -6,8 +6,8 @@ use Rattle.std.specs.declared.option.Option.{Option}
 use Rattle.std.proofs.shelf.Lists.{at-drop-all}
 use Rattle.theory.specs.Banks.{Bank}
 use Rattle.theory.specs.Calls.{Refused, first-applying, tally-tests, tallies-tests}
-use Rattle.plans.specs.Views.{tallyOf}
-use Rattle.plans.specs.declared.rule.Tally.{Tally}
+use Rattle.rules.specs.Views.{tallyOf}
+use Rattle.rules.specs.declared.Tally.{Tally}
 use Rattle.theory.proofs.Lists.{either-first, numbered-turn}
 use Rattle.plans.proofs.Firsts.{first-join, refused-by}
 use Rattle.plans.proofs.plan.entry.check_tallies.Needs as need

@@ -3,7 +3,7 @@ use mathlib.Core.Path.{_≡_}
 use Prim.Native.Nat.{_+_}
 use lib.ListN.{drop}
 use Rattle.theory.specs.Calls.{tallies-tests, first-applying}
-use Rattle.plans.specs.Views.{tallyOf}
+use Rattle.rules.specs.Views.{tallyOf}
 use Rattle.plans.proofs.plan.entry.check_tallies.Given as given
 
 -- the tallies that are left decide

@@ -9,8 +9,8 @@ use Rattle.std.proofs.shelf.Lists.{length-map}
 use Rattle.theory.specs.Banks.{Bank}
 use Rattle.theory.specs.Rules.{Tally}
 use Rattle.theory.specs.Calls.{Refused, first-applying, field-tests, elements-tests, tally-tests}
-use Rattle.plans.specs.Views.{elementOf, tallyOf}
-use Rattle.plans.specs.declared.rule.Element.{Element as Stored}
+use Rattle.rules.specs.Views.{elementOf, tallyOf}
+use Rattle.rules.specs.declared.Element.{Element as Stored}
 use Rattle.theory.proofs.Lists.{either-first}
 use Rattle.plans.proofs.Firsts.{first-join, refused-by}
 use Rattle.plans.proofs.Untested.{fields-few}

@@ -1,10 +1,9 @@
 use mathlib.Core.Path.{ap}
-use Prim.Native.Nat.{ℕ}
 use native.Mathlib.Omega.{arith}
 use lib.Dec.{ltb}
 use Rattle.std.specs.Of.Vec.{vec-items}
 use Rattle.std.proofs.shelf.Lists.{length-map}
-use Rattle.plans.specs.Views.{elementOf}
+use Rattle.rules.specs.Views.{elementOf}
 use Rattle.plans.proofs.plan.entry.has_many_elements.Needs as need
 
 pub returns : need.returns

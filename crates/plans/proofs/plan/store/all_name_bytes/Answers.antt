@@ -1,5 +1,5 @@
 use mathlib.Core.Bool.{_&&_}
-use mathlib.Core.Path.{refl, sym}
+use mathlib.Core.Path.{refl}
 use native.Mathlib.Omega.{arith}
 use Rattle.std.proofs.shelf.Lists.{at-drop-all}
 use Rattle.theory.specs.Calls.{is-name-byte}

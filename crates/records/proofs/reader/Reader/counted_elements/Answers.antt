@@ -1,13 +1,12 @@
 use mathlib.Core.List.{List, [], map}
-use mathlib.Core.Path.{_≡_, sym, ap, _∙_}
+use mathlib.Core.Path.{sym, ap, _∙_}
 use Prim.Native.Nat.{ℕ, _+_, _-_}
 use native.Mathlib.Omega.{arith}
 use denote.Ref.{now}
 use Rattle.std.specs.Of.Vec.{vec-items}
 use Rattle.std.proofs.shelf.Lists.{map-push}
 use Rattle.theory.specs.Rules.{Element}
-use Rattle.plans.specs.Views.{elementOf}
-use Rattle.records.specs.Fields.{Read}
+use Rattle.rules.specs.Views.{elementOf}
 use Rattle.records.specs.Records.{read-element}
 use Rattle.records.proofs.Repeats.{with-more, repeat-none, repeat-more, repeat-failed, repeat-all, passed-on}
 use Rattle.records.proofs.reader.Reader.counted_elements.Needs as need

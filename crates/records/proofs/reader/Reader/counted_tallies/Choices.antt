@@ -3,7 +3,7 @@ use mathlib.Core.Path.{_≡_}
 use Prim.Native.Nat.{_-_, _≤_}
 use denote.Ref.{now}
 use Rattle.std.specs.Of.Vec.{vec-items, vec-len, vec-cap}
-use Rattle.plans.specs.Views.{tallyOf}
+use Rattle.rules.specs.Views.{tallyOf}
 use Rattle.records.specs.Records.{read-tally, repeated}
 use Rattle.records.proofs.Repeats.{with-more}
 use Rattle.records.proofs.reader.Reader.counted_tallies.Given as given

@@ -1,5 +1,5 @@
 // Rules, their tallies and the elements of those.
-ghost use Rattle.plans.specs.Views.{relationOf, signOf};
+ghost use Rattle.rules.specs.Views.{relationOf, signOf};
 ghost use Rattle.theory.specs.Calls.{known-relation, known-sign, relation-coded, sign-coded};
 ghost use Rattle.theory.specs.Rules.{negates, relates};
 ghost use mathlib.Core.Path.{_≡_};

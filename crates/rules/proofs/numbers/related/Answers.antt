@@ -1,16 +1,15 @@
 use mathlib.Core.Bool.{not, _&&_}
-use mathlib.Core.Path.{_≡_, ap, ap₂, _∙_}
+use mathlib.Core.Path.{_≡_, ap, ap₂}
 use native.Mathlib.Omega.{arith}
 use lib.Dec.{eqb}
 use lib.IntN.{ℤ}
 use lib.Signed.{leZ, ltZ}
 use mir.Syntax.{w32}
-use mir.Val.{SFits, ofZ, toZ}
+use mir.Val.{SFits, ofZ}
 use Rattle.std.proofs.shelf.Signed.{ints, toZ-ofZ}
 use Rattle.std.proofs.shelf.Ways.{tells}
 use Rattle.theory.specs.Rules.{relates}
-use Rattle.plans.specs.Views.{relationOf}
-use Rattle.plans.proofs.rule.numbers.related.Needs as need
+use Rattle.rules.proofs.numbers.related.Needs as need
 
 -- numbers of 32 bits are equal when their bits are
 same : (a b : ℤ) → SFits w32 a → SFits w32 b → eqb (ofZ w32 a) (ofZ w32 b) ≡ (leZ a b && leZ b a)

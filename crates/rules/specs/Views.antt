@@ -2,13 +2,13 @@
 use mathlib.Core.List.{List, map}
 use Rattle.std.specs.Of.Vec.{vec-items}
 use Rattle.theory.specs.Rules.{Element, Relation, equal, unequal, below, above, at-most, at-least, unread, Sign, plain, negated, unsigned, Tally, Rule}
-use Rattle.plans.specs.declared.rule.Element.{Element as Stored-element}
-use Rattle.plans.specs.declared.rule.Relation.{Relation as Stored-relation}
-use Rattle.plans.specs.declared.rule.Relation.the-variants.{Equal, Unequal, Below, Above, AtMost, AtLeast, Unread as Unread-relation}
-use Rattle.plans.specs.declared.rule.Sign.{Sign as Stored-sign}
-use Rattle.plans.specs.declared.rule.Sign.the-variants.{Plain, Negated, Unread as Unread-sign}
-use Rattle.plans.specs.declared.rule.Tally.{Tally as Stored-tally}
-use Rattle.plans.specs.declared.rule.Rule.{Rule as Stored-rule}
+use Rattle.rules.specs.declared.Element.{Element as Stored-element}
+use Rattle.rules.specs.declared.Relation.{Relation as Stored-relation}
+use Rattle.rules.specs.declared.Relation.the-variants.{Equal, Unequal, Below, Above, AtMost, AtLeast, Unread as Unread-relation}
+use Rattle.rules.specs.declared.Sign.{Sign as Stored-sign}
+use Rattle.rules.specs.declared.Sign.the-variants.{Plain, Negated, Unread as Unread-sign}
+use Rattle.rules.specs.declared.Tally.{Tally as Stored-tally}
+use Rattle.rules.specs.declared.Rule.{Rule as Stored-rule}
 
 abbrev pub relationOf : Stored-relation → Relation
 relationOf Equal = equal

@@ -1,8 +1,8 @@
 // The six relations between numbers.
-ghost use Rattle.plans.specs.Views.{relationOf};
+ghost use Rattle.rules.specs.Views.{relationOf};
 ghost use Rattle.theory.specs.Rules.{relates};
 ghost use mathlib.Core.Path.{_≡_};
-use crate::rule::Relation;
+use crate::Relation;
 
 pub fn related(relation: Relation, total: i32, bound: i32) -> bool
     ensures { λ r. ⌜ r ≡ relates (relationOf relation) total bound ⌝ }
