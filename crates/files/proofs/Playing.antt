@@ -13,11 +13,10 @@ use Rattle.std.specs.declared.result.Result.{Result}
 use Rattle.theory.specs.Banks.{Bank}
 use Rattle.theory.specs.Calls.{Plan, Refused}
 use Rattle.records.specs.declared.fault.ReaderFault.{ReaderFault}
-use Rattle.records.specs.Faults.{readerNumber}
 use Rattle.records.specs.Fields.{Read, got, failed}
-use Rattle.files.specs.Lines.{Said, refusal-line, written}
+use Rattle.files.specs.Lines.{Said, written}
 use Rattle.records.specs.Records.{Sent, read-record}
-use Rattle.files.specs.Plays.{Step, answered, unread, by-record, step, Outcome, ends, after-line, line-at, play-from, over}
+use Rattle.files.specs.Plays.{Step, answered, unread, by-record, step, input-ended, report-full, unreadable, Outcome, ends, after-line, line-at, unread-line, play-from, over}
 use Rattle.records.proofs.Shrinks.{Fewer, record-fewer}
 
 -- a record leaves fewer bytes
@@ -39,16 +38,16 @@ module _ (bank : Bank) (size : ℕ) where
   onward n room bytes s = elim s [
     | answered answer after rest ↦
         after-line (line-at (size - length bytes) answer) (play-from bank size n (room - length (line-at (size - length bytes) answer)) after rest)
-    | unread fault ↦ ends (refusal-line (readerNumber fault) (size - length bytes) 0 0) (readerNumber fault)
+    | unread fault ↦ ends (unread-line (size - length bytes) fault) (unreadable (size - length bytes) fault)
   ]
 
-  pub play-done : (n room : ℕ) (plan : Plan) (bytes : List ℕ) → length bytes ≡ 0 → play-from bank size n room plan bytes ≡ ends [] 0
+  pub play-done : (n room : ℕ) (plan : Plan) (bytes : List ℕ) → length bytes ≡ 0 → play-from bank size n room plan bytes ≡ ends [] input-ended
   unfolding play-from
   play-done zero room plan bytes e = refl
   play-done (suc n) room plan bytes e = cond-true _ _ _ (eq-eqb (length bytes) 0 e)
 
   play-more : (n room : ℕ) (plan : Plan) (bytes : List ℕ) → 0 < length bytes
-      → play-from bank size (suc n) room plan bytes ≡ cond (ltb room 20) (ends [] 26) (onward n room bytes (step bank plan bytes))
+      → play-from bank size (suc n) room plan bytes ≡ cond (ltb room 20) (ends [] report-full) (onward n room bytes (step bank plan bytes))
   unfolding play-from
   play-more n room plan bytes some = cond-false _ _ _ (ne-eqb (length bytes) 0 (λ e. omega arith))
 
@@ -66,20 +65,20 @@ module _ (bank : Bank) (size : ℕ) where
   enough (suc n) (suc m) room plan bytes a b =
       elim (cases-lt 0 (length bytes)) [
         | inl some ↦ play-more n room plan bytes some
-            ∙ ap (cond (ltb room 20) (ends [] 26))
+            ∙ ap (cond (ltb room 20) (ends [] report-full))
             (same n m room bytes (λ r p rest less. enough n m r p rest (omega arith) (omega arith)) (step bank plan bytes) (step-shorter bank plan bytes))
             ∙ sym (play-more m room plan bytes some)
         | inr none ↦ play-done (suc n) room plan bytes (omega arith) ∙ sym (play-done (suc m) room plan bytes (omega arith))
       ]
 
   module _ (room : ℕ) (plan : Plan) (bytes : List ℕ) (some : 0 < length bytes) where
-    first : play-from bank size (length bytes) room plan bytes ≡ cond (ltb room 20) (ends [] 26) (onward (length bytes - 1) room bytes (step bank plan bytes))
+    first : play-from bank size (length bytes) room plan bytes ≡ cond (ltb room 20) (ends [] report-full) (onward (length bytes - 1) room bytes (step bank plan bytes))
     first =
         let e : length bytes ≡ suc (length bytes - 1) = omega arith in
         ap (λ (n : ℕ). play-from bank size n room plan bytes) e ∙ play-more (length bytes - 1) room plan bytes some
 
     -- the report has no room for a line
-    pub play-full : room < 20 → play-from bank size (length bytes) room plan bytes ≡ ends [] 26
+    pub play-full : room < 20 → play-from bank size (length bytes) room plan bytes ≡ ends [] report-full
     play-full less = first ∙ cond-true _ _ _ (lt-ltb room 20 less)
 
     -- a record that is read
@@ -93,7 +92,7 @@ module _ (bank : Bank) (size : ℕ) where
 
     -- a record that cannot be read
     pub play-stop : 20 ≤ room → (f : ReaderFault) → unread f ≡ step bank plan bytes
-        → play-from bank size (length bytes) room plan bytes ≡ ends (refusal-line (readerNumber f) (size - length bytes) 0 0) (readerNumber f)
+        → play-from bank size (length bytes) room plan bytes ≡ ends (unread-line (size - length bytes) f) (unreadable (size - length bytes) f)
     play-stop enough-room f e =
         first ∙ cond-false _ _ _ (le-ltb room 20 enough-room) ∙ ap (onward (length bytes - 1) room bytes) (sym e)
 
@@ -109,4 +108,4 @@ over-more text line report =
     ∙ sym (append-assoc text line (drop (length (text ++ line)) report))
 
 pub after-more : (text line : List ℕ) (o : Outcome) → after-line text (after-line line o) ≡ after-line (text ++ line) o
-after-more text line o = ap (λ (t : List ℕ). ends t (o .fault)) (sym (append-assoc text line (o .text)))
+after-more text line o = ap (λ (t : List ℕ). ends t (o .ending)) (sym (append-assoc text line (o .text)))

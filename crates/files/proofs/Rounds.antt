@@ -17,9 +17,9 @@ use Rattle.theory.specs.Calls.{Plan, Refused}
 use Rattle.theory.specs.Verdicts.{broken, smaller, stable}
 use Rattle.files.specs.declared.play.PlayFault.{PlayFault}
 use Rattle.files.specs.declared.play.PlayFault.the-variants.{InputTooLong, ReportFull, NoMemory as OutOfMemory, Unreadable}
-use Rattle.files.specs.Faults.{faultNumber}
-use Rattle.files.specs.Lines.{Said, atom, entered, judged, refusal-line, written}
-use Rattle.files.specs.Plays.{Outcome, ends, after-line, line-at, play-from, over, Exactly, Plays, Lined, Unlined, Goes-on, RecordPlayed}
+use Rattle.files.specs.Lines.{Said, atom, entered, judged, written}
+use Rattle.files.specs.Plays.{Ending, input-ended, report-full, unreadable, Outcome, ends, after-line, line-at, unread-line, play-from, over, Exactly, Plays}
+use Rattle.files.specs.Turns.{Lined, Unlined, Goes-on, RecordPlayed}
 use Rattle.files.proofs.Playing.{Shorter, step-shorter, play-done, play-full, play-on, play-stop, over-more, after-more}
 
 -- no line is longer than 20 bytes
@@ -99,17 +99,17 @@ module _ (bank : Bank) (size : ℕ) (before : List ℕ) (all : Outcome) where
     )
 
     -- the play ends at this record
-    ending : (line : List ℕ) (fault : ℕ) (after : List ℕ) (to : ℕ) → play-from bank size (length rest) (length before - count) plan rest ≡ ends line fault
-        → after ≡ over (so .text ++ line) before → to ≡ length (so .text ++ line) → Exactly fault before after to all
-    ending line fault after to p r b =
-        let e : ends (so .text ++ line) fault ≡ all = sym (ap (after-line (so .text)) p) ∙ so .to-come in
-        subst (Exactly fault before after to) e (record { number = refl; bytes = b; report = r })
+    ending : (line : List ℕ) (end : Ending) (after : List ℕ) (to : ℕ) → play-from bank size (length rest) (length before - count) plan rest ≡ ends line end
+        → after ≡ over (so .text ++ line) before → to ≡ length (so .text ++ line) → Exactly end before after to all
+    ending line end after to p r b =
+        let e : ends (so .text ++ line) end ≡ all = sym (ap (after-line (so .text)) p) ∙ so .to-come in
+        subst (Exactly end before after to) e (record { ended = refl; bytes = b; report = r })
 
     -- nothing is left
-    pub so-far-done : length rest ≡ 0 → Exactly 0 before report count all
+    pub so-far-done : length rest ≡ 0 → Exactly input-ended before report count all
     so-far-done e =
         let u = unlined-over report count (record { end = refl; report = refl }) in
-        ending [] 0 report count (play-done bank size (length rest) (length before - count) plan rest e) (u .0) (u .1)
+        ending [] input-ended report count (play-done bank size (length rest) (length before - count) plan rest e) (u .0) (u .1)
 
     pub so-far-ended : (e : PlayFault) (after : List ℕ) (to : ℕ) (plan′ : Plan) (rest′ : List ℕ) → 0 < length rest
         → RecordPlayed (Err e) bank (size - length rest) plan plan′ rest rest′ report after count to → Plays (Some e) before after to all
@@ -117,15 +117,15 @@ module _ (bank : Bank) (size : ℕ) (before : List ℕ) (all : Outcome) where
     so-far-ended ReportFull after to plan′ rest′ some h =
         let len = same-length in
         let u = unlined-over after to (h .1) in
-        ending [] 26 after to (play-full bank size (length before - count) plan rest some (omega (arith, h .0))) (u .0) (u .1)
+        ending [] report-full after to (play-full bank size (length before - count) plan rest some (omega (arith, h .0))) (u .0) (u .1)
     so-far-ended OutOfMemory after to plan′ rest′ some h = record { text = so .text; bytes = h .end ∙ so .bytes; report = h .report ∙ so .same }
-    so-far-ended (Unreadable l) after to plan′ rest′ some h =
-        let s = h .1 in
+    so-far-ended (Unreadable at f) after to plan′ rest′ some h =
+        let s = h .2 in
         let len = same-length in
-        ending (refusal-line (faultNumber (l .fault)) (size - length rest) 0 0) (faultNumber (l .fault)) after to
-        (play-stop bank size (length before - count) plan rest some (omega (arith, h .0)) (s .cause) (s .stepped)
-        ∙ ap (λ (n : ℕ). ends (refusal-line n (size - length rest) 0 0) n) (sym (s .number)))
-        (lined-over after _ to (s .lined)) (lined-bytes after _ to (s .lined))
+        subst (λ (n : ℕ). Exactly (unreadable n f) before after to all) (sym (h .1))
+        (ending (unread-line (size - length rest) f) (unreadable (size - length rest) f) after to
+        (play-stop bank size (length before - count) plan rest some (omega (arith, h .0)) f (s .stepped))
+        (lined-over after _ to (s .lined)) (lined-bytes after _ to (s .lined)))
 
 -- what a `?` passed on
 pub ended-by : (r : Result (Unit {0}) PlayFault) (e : PlayFault) (before after : List ℕ) (count : ℕ) (all : Outcome) → ErrBy r (λ x. x ≡ e)

@@ -17,14 +17,12 @@ use Rattle.files.specs.declared.fault.FileFault.{FileFault}
 use Rattle.files.specs.declared.fault.FileFault.the-variants.{Reader, Plan as OfPlan}
 use Rattle.files.specs.declared.line.Answer.{Answer}
 use Rattle.records.specs.Fields.{got, failed}
-use Rattle.files.specs.declared.fault.Located.{Located}
 use Rattle.files.specs.declared.play.PlayFault.{PlayFault}
 use Rattle.files.specs.declared.play.PlayFault.the-variants.{InputTooLong, ReportFull, NoMemory as OutOfMemory, Unreadable}
-use Rattle.records.specs.Faults.{readerNumber}
-use Rattle.files.specs.Faults.{faultNumber}
-use Rattle.files.specs.Lines.{Said, refusal-line}
+use Rattle.files.specs.Lines.{Said}
 use Rattle.records.specs.Records.{Sent, read-record}
-use Rattle.files.specs.Plays.{Step, answered, unread, called, after-call, by-record, step, Steps, Lined, FaultPut, RecordPlayed}
+use Rattle.files.specs.Plays.{Step, answered, unread, called, after-call, by-record, step}
+use Rattle.files.specs.Turns.{Steps, Stops, FaultPut, RecordPlayed}
 
 module _ (bank : Bank) (plan : Plan) (bytes : List ℕ) where
   pub step-got : (rest : List ℕ) (sent : Sent) (a : Result Said Refused) (p : Plan) → got sent rest ≡ read-record bytes
@@ -58,16 +56,8 @@ fault-played (Ok done) (Reader f) bank offset plan plan′ bytes rest before aft
 fault-played (Err InputTooLong) (Reader f) bank offset plan plan′ bytes rest before after from to put steps room = absurd put
 fault-played (Err ReportFull) (Reader f) bank offset plan plan′ bytes rest before after from to put steps room = absurd put
 fault-played (Err OutOfMemory) (Reader f) bank offset plan plan′ bytes rest before after from to put steps room = put .1
-fault-played (Err (Unreadable m)) (Reader f) bank offset plan plan′ bytes rest before after from to put steps room =
-    let same : faultNumber (m .fault) ≡ readerNumber f = ap (λ (l : Located). faultNumber (l .fault)) (put .0) in (
-      room,
-      record {
-        cause = f;
-        number = same;
-        stepped = steps (put .1);
-        lined = subst (λ (n : ℕ). Lined before after from to (refusal-line n offset 0 0)) (sym same) (put .2);
-      },
-    )
+fault-played (Err (Unreadable at g)) (Reader f) bank offset plan plan′ bytes rest before after from to put steps room =
+    (room, put .0, subst (λ (x : ReaderFault). Stops bank offset x plan bytes before after from to) (sym (put .1)) (record { stepped = steps (put .2); lined = put .3 }))
 fault-played r (OfPlan f) bank offset plan plan′ bytes rest before after from to put steps room =
     subst (λ (q : Result (Unit {0}) PlayFault). RecordPlayed q bank offset plan plan′ bytes rest before after from to) (sym (put .0))
     (room, record { answer = Err (refusedOf f); stepped = steps; lined = put .1 })

@@ -1,4 +1,4 @@
 // Playing a file of records, and the report of it.
 pub mod fault;
-pub mod line;
+mod line;
 pub mod play;

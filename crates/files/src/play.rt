@@ -1,5 +1,6 @@
 // Playing a file: its records are calls on a new plan, and each is answered by a line of the report.
-ghost use Rattle.files.specs.Plays.{FaultPut, Plays, RecordPlayed, Steps, after-call, called, endingNumber, play-from, playing, reading-of, saidIn, step};
+ghost use Rattle.files.specs.Plays.{Plays, after-call, called, endingNumber, play-from, playing, reading-of, step};
+ghost use Rattle.files.specs.Turns.{FaultPut, RecordPlayed, Steps, saidIn};
 ghost use Rattle.records.specs.Records.{recordOf};
 ghost use Rattle.files.specs.declared.play.PlayFault.the-variants.{NoMemory as OutOfMemory};
 ghost use Rattle.judging.specs.Answers.{judgeAnswerOf};
@@ -50,8 +51,8 @@ pub enum PlayFault {
     ReportFull,
     /// No memory for the plan or for a rule; no line is written for it.
     NoMemory,
-    /// A record that cannot be read; its line is written.
-    Unreadable(Located),
+    /// The record at this offset cannot be read; its line is written.
+    Unreadable(u32, ReaderFault),
 }
 
 pub impl From<AllocError> for PlayFault as PlayFromAlloc {
@@ -79,7 +80,7 @@ impl Played {
             Some(PlayFault::InputTooLong) => 12,
             Some(PlayFault::ReportFull) => 26,
             Some(PlayFault::NoMemory) => 99,
-            Some(PlayFault::Unreadable(located)) => located.fault.number(),
+            Some(PlayFault::Unreadable(_, fault)) => fault.number(),
         }
     }
 }
@@ -133,7 +134,7 @@ fn put_fault(report: &mut [u8], written: &mut usize, located: Located) -> Result
     }
     *written = put_refusal(report, *written, located);
     match located.fault {
-        FileFault::Reader(_) => Err(PlayFault::Unreadable(located)),
+        FileFault::Reader(fault) => Err(PlayFault::Unreadable(located.offset, fault)),
         FileFault::Plan(_) => Ok(()),
     }
 }

@@ -18,7 +18,7 @@ pub const MAX_RULES: usize = 64;
 
 /// An atom's name, to its last byte.
 #[derive(Clone, Copy)]
-pub struct Name {
+struct Name {
     bytes: [u8; 16],
     len: u8,
     ghost some: { 1 ≤ len },

@@ -139,7 +139,7 @@ fn check_sets(atoms: u8, rule: &Rule) -> Result<(), Refused>
 
 impl<B: Bank> Plan<B> {
     // What enter tests of a rule; a rule that passes may be kept.
-    pub fn check_entry(&self, rule: &Rule) -> Result<(), Refused>
+    pub(super) fn check_entry(&self, rule: &Rule) -> Result<(), Refused>
         ensures tests { λ r. ⌜ refusalIn r ≡ enter-refusal (meaning (now (self .entry) .bank)) (planOf (now (self .entry))) (ruleOf (now (rule .entry))) ⌝ }
         ensures fit { λ r. ⌜ made r (λ _. (vec-len (now (self .entry) .rules) < 64) × (fit-rule (ruleOf (now (rule .entry))) ≡ true)) ⌝ }
     {

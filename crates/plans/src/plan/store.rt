@@ -38,7 +38,7 @@ fn all_name_bytes(bytes: &[u8]) -> bool
 
 impl Name {
     // The name of these bytes, or the refusal of their length or of one of them.
-    pub fn new(bytes: &[u8]) -> Result<Name, Refusal>
+    fn new(bytes: &[u8]) -> Result<Name, Refusal>
         ensures { λ r. ⌜ Cases r
             (λ n. (textOf n ≡ now (bytes .entry)) × (first-applying (text-tests (now (bytes .entry))) ≡ None))
             (λ f. first-applying (text-tests (now (bytes .entry))) ≡ Some (refusalOf f)) ⌝ }
@@ -58,7 +58,7 @@ impl Name {
         })
     }
 
-    pub fn text(&self) -> &[u8]
+    fn text(&self) -> &[u8]
         ensures { λ r. ⌜ now r ≡ textOf (now (self .entry)) ⌝ }
     {
         &self.bytes[0..self.len as usize]
@@ -66,7 +66,7 @@ impl Name {
 }
 
 // Whether one of the names agrees with the bytes in length and in every byte.
-pub fn is_borne(names: &[Name], bytes: &[u8]) -> bool
+fn is_borne(names: &[Name], bytes: &[u8]) -> bool
     ensures { λ r. ⌜ r ≡ borne (textsOf (now (names .entry))) (now (bytes .entry)) ⌝ }
 {
     for name in names {
@@ -78,7 +78,7 @@ pub fn is_borne(names: &[Name], bytes: &[u8]) -> bool
 }
 
 impl<B> Plan<B> {
-    pub fn atom_count(&self) -> u8
+    pub(super) fn atom_count(&self) -> u8
         ensures value { λ r. ⌜ r ≡ length (planOf (now (self .entry)) .names) ⌝ }
         ensures len { λ r. ⌜ r ≡ vec-len (now (self .entry) .names) ⌝ }
     {
@@ -86,7 +86,7 @@ impl<B> Plan<B> {
     }
 
     // The bytes as a name, where none of the tests of name applies.
-    pub fn check_name(&self, bytes: &[u8]) -> Result<Name, Refusal>
+    pub(super) fn check_name(&self, bytes: &[u8]) -> Result<Name, Refusal>
         ensures { λ r. ⌜ Cases r
             (λ n. (textOf n ≡ now (bytes .entry)) × (name-refusal (planOf (now (self .entry))) (now (bytes .entry)) ≡ None) × (vec-len (now (self .entry) .names) < 32))
             (λ f. name-refusal (planOf (now (self .entry))) (now (bytes .entry)) ≡ Some (refusalOf f)) ⌝ }
@@ -101,7 +101,7 @@ impl<B> Plan<B> {
         Ok(name)
     }
 
-    pub fn rule_count(&self) -> usize
+    pub(super) fn rule_count(&self) -> usize
         ensures value { λ r. ⌜ r ≡ length (planOf (now (self .entry)) .rules) ⌝ }
         ensures len { λ r. ⌜ r ≡ vec-len (now (self .entry) .rules) ⌝ }
     {
@@ -109,7 +109,7 @@ impl<B> Plan<B> {
     }
 
     // The name becomes the next atom's; its number.
-    pub fn add_name(&mut self, name: Name) -> u8
+    pub(super) fn add_name(&mut self, name: Name) -> u8
         requires { ⌜ vec-len (now self .names) < 32 ⌝ }
         ensures number { λ r. ⌜ r ≡ length (planOf (now (self .entry)) .names) ⌝ }
         ensures after { λ _. ⌜ planOf (now (self .exit)) ≡ record { names = planOf (now (self .entry)) .names ++ textOf name ∷ []; rules = planOf (now (self .entry)) .rules } ⌝ }
@@ -121,7 +121,7 @@ impl<B> Plan<B> {
     }
 
     // The rule goes to the end; its place.
-    pub fn add_rule(&mut self, rule: Rule) -> u8
+    pub(super) fn add_rule(&mut self, rule: Rule) -> u8
         requires room { ⌜ vec-len (now self .rules) < 64 ⌝ }
         requires fit { ⌜ fit-rule (ruleOf rule) ≡ true ⌝ }
         ensures number { λ r. ⌜ r ≡ suc (length (planOf (now (self .entry)) .rules)) ⌝ }

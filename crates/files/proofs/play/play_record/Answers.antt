@@ -4,7 +4,7 @@ use native.Mathlib.Omega.{arith}
 use denote.Ref.{now}
 use lib.ListN.{length}
 use Rattle.plans.specs.PlanView.{planOf}
-use Rattle.files.specs.Plays.{RecordPlayed}
+use Rattle.files.specs.Turns.{RecordPlayed}
 use Rattle.files.proofs.Stepped.{fault-played}
 use Rattle.files.proofs.play.play_record.Needs as need
 

@@ -6,7 +6,8 @@ use denote.Ref.{now}
 use lib.ListN.{length}
 use Rattle.std.specs.declared.result.Result.the-variants.{Ok, Err}
 use Rattle.plans.specs.PlanView.{planOf}
-use Rattle.files.specs.Plays.{RecordPlayed, play-from}
+use Rattle.files.specs.Plays.{play-from}
+use Rattle.files.specs.Turns.{RecordPlayed}
 use Rattle.files.proofs.Playing.{Shorter, step-shorter}
 use Rattle.files.proofs.Rounds.{So-far, so-far-none, so-far-more, so-far-done, so-far-ended, same-length, ended-by}
 use Rattle.files.proofs.play.play_records.Needs as need
