@@ -1,3 +1,4 @@
+pub mod Joins
 pub mod Stepped
 pub mod Playing
 pub mod Rounds

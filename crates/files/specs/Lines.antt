@@ -54,9 +54,12 @@ said-line (entered place) = codes "RULE " ++ ended (two-digits place)
 said-line (judged v) = verdict-line v
 
 -- the refusal's number, the offset of the record's mark, and the places of the tally and of the element
+abbrev pub refusal-text : ℕ → ℕ → ℕ → ℕ → List ℕ
+refusal-text number offset tally element =
+    two-digits number ++ (32 ∷ (eight-hex offset ++ (32 ∷ (48 + tally % 10) ∷ 32 ∷ two-digits element)))
+
 abbrev pub refusal-line : ℕ → ℕ → ℕ → ℕ → List ℕ
-refusal-line number offset tally element =
-    codes "NO " ++ (two-digits number ++ (32 ∷ (eight-hex offset ++ (32 ∷ (48 + tally % 10) ∷ 32 ∷ ended (two-digits element)))))
+refusal-line number offset tally element = codes "NO " ++ ended (refusal-text number offset tally element)
 
 -- the tally and the element place that enter tested, or zeros
 abbrev pub tally-tested : FileFault → ℕ
@@ -66,6 +69,9 @@ tally-tested (Plan f) = f .tally
 abbrev pub element-tested : FileFault → ℕ
 element-tested (Reader f) = 0
 element-tested (Plan f) = f .element
+
+abbrev pub located-text : Located → List ℕ
+located-text l = refusal-text (faultNumber (l .fault)) (l .offset) (tally-tested (l .fault)) (element-tested (l .fault))
 
 abbrev pub located-line : Located → List ℕ
 located-line l = refusal-line (faultNumber (l .fault)) (l .offset) (tally-tested (l .fault)) (element-tested (l .fault))

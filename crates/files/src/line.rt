@@ -1,8 +1,9 @@
 // The lines of a report, and how they are written into it.
 ghost use Prim.Native.Nat.{_+_, _<_, _≤_};
-ghost use Rattle.files.specs.Lines.{eight-hex, element-tested, hex-digit, located-line, said-line, saidOf, tally-tested, two-digits, verdict-line, written};
+ghost use Rattle.files.specs.Lines.{eight-hex, element-tested, ended, hex-digit, located-line, located-text, said-line, saidOf, tally-tested, two-digits, verdict-line, written};
 ghost use Rattle.judging.specs.Answers.{verdictOf};
 ghost use lib.ListN.{length};
+ghost use mathlib.Core.List.{_++_};
 ghost use mathlib.Core.Path.{_≡_};
 use crate::fault::FileFault;
 use crate::fault::Located;
@@ -65,47 +66,39 @@ fn put(report: &mut [u8], at: usize, text: &[u8]) -> usize
     end
 }
 
+// A word, a value and the line's end.
+fn put_line(report: &mut [u8], at: usize, word: &[u8], value: &[u8]) -> usize
+    requires { ⌜ at + length (now word ++ ended (now value)) ≤ length (now report) ⌝ }
+    ensures end { λ r. ⌜ r ≡ at + length (now (word .entry) ++ ended (now (value .entry))) ⌝ }
+    ensures after { λ _. ⌜ now (report .exit) ≡ written (now (report .entry)) at (now (word .entry) ++ ended (now (value .entry))) ⌝ }
+{
+    let past_word = put(report, at, word);
+    let past_value = put(report, past_word, value);
+    put(report, past_value, b"\n")
+}
+
 fn put_verdict(report: &mut [u8], at: usize, verdict: Verdict) -> usize
     requires { ⌜ at + 20 ≤ length (now report) ⌝ }
     ensures end { λ r. ⌜ r ≡ at + length (verdict-line (verdictOf verdict)) ⌝ }
     ensures after { λ _. ⌜ now (report .exit) ≡ written (now (report .entry)) at (verdict-line (verdictOf verdict)) ⌝ }
 {
     match verdict {
-        Verdict::Broken(place) => {
-            let [t, o] = two_digits(place);
-            put(
-                report,
-                at,
-                &[b'B', b'R', b'O', b'K', b'E', b'N', b' ', t, o, b'\n'],
-            )
-        }
-        Verdict::Smaller(set) => {
-            let [a, b, c, d, e, f, g, h] = eight_hex(set.0);
-            put(
-                report,
-                at,
-                &[
-                    b'S',
-                    b'M',
-                    b'A',
-                    b'L',
-                    b'L',
-                    b'E',
-                    b'R',
-                    b' ',
-                    a,
-                    b,
-                    c,
-                    d,
-                    e,
-                    f,
-                    g,
-                    h,
-                    b'\n',
-                ],
-            )
-        }
-        Verdict::Stable => put(report, at, b"STABLE\n"),
+        Verdict::Broken(place) => put_line(report, at, b"BROKEN ", &two_digits(place)),
+        Verdict::Smaller(set) => put_line(report, at, b"SMALLER ", &eight_hex(set.0)),
+        Verdict::Stable => put_line(report, at, b"STABLE", b""),
+    }
+}
+
+/// Writes the line of an answer at an offset that has room for it, and gives the offset after it.
+pub fn put_answer(report: &mut [u8], at: usize, answer: Answer) -> usize
+    requires { ⌜ at + 20 ≤ length (now report) ⌝ }
+    ensures end { λ r. ⌜ r ≡ at + length (said-line (saidOf answer)) ⌝ }
+    ensures after { λ _. ⌜ now (report .exit) ≡ written (now (report .entry)) at (said-line (saidOf answer)) ⌝ }
+{
+    match answer {
+        Answer::Atom(n) => put_line(report, at, b"ATOM ", &two_digits(n)),
+        Answer::Entered(place) => put_line(report, at, b"RULE ", &two_digits(place)),
+        Answer::Judged(verdict) => put_verdict(report, at, verdict),
     }
 }
 
@@ -118,59 +111,23 @@ fn places(fault: FileFault) -> (u8, u8)
     }
 }
 
+// The number, the offset and the places, with spaces between them.
+fn refusal_text(located: Located) -> [u8; 16]
+    ensures { λ r. ⌜ r ≡ located-text located ⌝ }
+{
+    let [n, m] = two_digits(located.fault.number());
+    let [a, b, c, d, e, f, g, h] = eight_hex(located.offset);
+    let (tally, element) = places(located.fault);
+    let t = b'0' + tally % 10;
+    let [v, w] = two_digits(element);
+    [n, m, b' ', a, b, c, d, e, f, g, h, b' ', t, b' ', v, w]
+}
+
 /// The same for a refusal.
 pub fn put_refusal(report: &mut [u8], at: usize, located: Located) -> usize
     requires { ⌜ at + 20 ≤ length (now report) ⌝ }
     ensures end { λ r. ⌜ r ≡ at + length (located-line located) ⌝ }
     ensures after { λ _. ⌜ now (report .exit) ≡ written (now (report .entry)) at (located-line located) ⌝ }
 {
-    let [t, o] = two_digits(located.fault.number());
-    let [a, b, c, d, e, f, g, h] = eight_hex(located.offset);
-    let (tally, element) = places(located.fault);
-    let [v, w] = two_digits(element);
-    put(
-        report,
-        at,
-        &[
-            b'N',
-            b'O',
-            b' ',
-            t,
-            o,
-            b' ',
-            a,
-            b,
-            c,
-            d,
-            e,
-            f,
-            g,
-            h,
-            b' ',
-            b'0' + tally % 10,
-            b' ',
-            v,
-            w,
-            b'\n',
-        ],
-    )
-}
-
-/// Writes the line of an answer at an offset that has room for it, and gives the offset after it.
-pub fn put_answer(report: &mut [u8], at: usize, answer: Answer) -> usize
-    requires { ⌜ at + 20 ≤ length (now report) ⌝ }
-    ensures end { λ r. ⌜ r ≡ at + length (said-line (saidOf answer)) ⌝ }
-    ensures after { λ _. ⌜ now (report .exit) ≡ written (now (report .entry)) at (said-line (saidOf answer)) ⌝ }
-{
-    match answer {
-        Answer::Atom(n) => {
-            let [t, o] = two_digits(n);
-            put(report, at, &[b'A', b'T', b'O', b'M', b' ', t, o, b'\n'])
-        }
-        Answer::Entered(place) => {
-            let [t, o] = two_digits(place);
-            put(report, at, &[b'R', b'U', b'L', b'E', b' ', t, o, b'\n'])
-        }
-        Answer::Judged(verdict) => put_verdict(report, at, verdict),
-    }
+    put_line(report, at, b"NO ", &refusal_text(located))
 }

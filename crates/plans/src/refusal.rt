@@ -4,7 +4,7 @@ ghost use Rattle.theory.specs.Calls.{number};
 ghost use mathlib.Core.Path.{_≡_};
 
 /// The reason for a refusal.
-#[derive(Debug, Clone, Copy, PartialEq, Eq)]
+#[derive(Clone, Copy)]
 pub enum Refusal {
     /// A name of no byte or of more than 16.
     NameLength,
@@ -62,7 +62,7 @@ impl Refusal {
 
 /// A refusal of a rule, with the places of the tally and of the element that were being tested: they count from 1,
 /// and 0 says that none was.
-#[derive(Debug, Clone, Copy, PartialEq, Eq)]
+#[derive(Clone, Copy)]
 pub struct Refused {
     pub refusal: Refusal,
     pub tally: u8,

@@ -25,7 +25,7 @@ pub trait Reading {
 }
 
 /// The reading of Faber, Leone and Pfeifer: everything is read in the subset.
-#[derive(Debug, Clone, Copy, PartialEq, Eq)]
+#[derive(Clone, Copy)]
 pub struct Flp;
 
 pub impl Reading for Flp as FlpReading {
@@ -41,7 +41,7 @@ pub impl Reading for Flp as FlpReading {
 }
 
 /// The reading of Ferraris: out sets and negated tallies are read in the candidate.
-#[derive(Debug, Clone, Copy, PartialEq, Eq)]
+#[derive(Clone, Copy)]
 pub struct Ferraris;
 
 pub impl Reading for Ferraris as FerrarisReading {

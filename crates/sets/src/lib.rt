@@ -7,7 +7,7 @@ ghost use mathlib.Core.Path.{_≡_};
 mod bits;
 
 /// A set of atoms: bit n, worth 2^n, marks atom n.
-#[derive(Debug, Clone, Copy, PartialEq, Eq)]
+#[derive(Clone, Copy)]
 pub struct AtomSet(pub u32);
 
 impl AtomSet {
