@@ -1,6 +1,8 @@
 -- A plan, and what its calls answer and leave: name, enter and judge, with the tests that refuse, in their order.
 use mathlib.Core.Bool.{Bool, true, false, not, _&&_, _||_, cond}
 use mathlib.Core.List.{List, [], _∷_, _++_}
+use mathlib.Core.Logic.{_↔_}
+use mathlib.Core.Path.{_≡_}
 use Prim.Native.Nat.{ℕ, suc}
 use lib.Count.{ones}
 use lib.Dec.{eqb, leb, ltb}
@@ -10,6 +12,7 @@ use Rattle.std.specs.declared.option.Option.{Option}
 use Rattle.std.specs.declared.option.Option.the-variants.{Some, None}
 use Rattle.std.specs.declared.result.Result.{Result}
 use Rattle.std.specs.declared.result.Result.the-variants.{Ok, Err}
+use Rattle.std.specs.shelf.Lists.{Has}
 use Rattle.std.specs.shelf.Text.{sameBytes}
 use Rattle.theory.specs.Sets.{within}
 use Rattle.theory.specs.Banks.{Bank}
@@ -87,6 +90,10 @@ is-name-byte b = between 48 57 b || between 65 90 b || between 97 122 b || eqb b
 abbrev pub borne : List (List ℕ) → List ℕ → Bool
 borne [] bytes = false
 borne (name ∷ names) bytes = sameBytes name bytes || borne names bytes
+
+-- A name is borne exactly when one of the names is the same list of bytes: nothing of it is cut off or passed over.
+abbrev pub Names-by-bytes : Type 0
+Names-by-bytes = (names : List (List ℕ)) (bytes : List ℕ) → (borne names bytes ≡ true) ↔ Has names bytes
 
 -- the two tests that look at the bytes alone, then the two that look at the atoms
 abbrev pub text-tests : List ℕ → List (Test Refusal)
