@@ -1,8 +1,9 @@
 // Banks of kinds of totals: the interface, the plain banks, and banks made from banks.
+#![tactic(auto)]
+
 ghost use Rattle.theory.specs.Banks.{Bank as Meaning, Kind, LawfulBank, Light, Near, counting, five_kinds, gaining, mirrored, paired, summing, topping};
 ghost use Rattle.std.specs.Prelude.{◌≡◌};
-ghost use Rattle.std.proofs.Common.{rules};
-ghost use Rattle.theory.proofs.BankLaws.{mirrored_lawful, five_kinds_lawful};
+ghost use Rattle.theory.proofs.BankLaws.{counting_lawful, summing_lawful, topping_lawful, paired_lawful, mirrored_lawful, gaining_lawful, five_kinds_lawful};
 
 mod mirrors;
 
@@ -38,7 +39,7 @@ pub struct Count;
 impl Bank for Count {
     ghost meaning = { λ _. counting };
 
-    ghost lawful = { Prim.search rules };
+    ghost lawful = { λ _. counting_lawful };
 
     fn size(&self) -> u8 {
         1
@@ -60,7 +61,7 @@ pub struct Sum;
 impl Bank for Sum {
     ghost meaning = { λ _. summing };
 
-    ghost lawful = { Prim.search rules };
+    ghost lawful = { λ _. summing_lawful };
 
     fn size(&self) -> u8 {
         1
@@ -82,7 +83,7 @@ pub struct Max;
 impl Bank for Max {
     ghost meaning = { λ _. topping };
 
-    ghost lawful = { Prim.search rules };
+    ghost lawful = { λ _. topping_lawful };
 
     fn size(&self) -> u8 {
         1
@@ -105,9 +106,9 @@ pub struct Pair<A, B> {
 }
 
 impl<A: Bank, B: Bank> Bank for Pair<A, B> {
-    ghost meaning = { λ p. paired (A.Bank.meaning p.first) (B.Bank.meaning p.second) };
+    ghost meaning = { λ p. paired (A.meaning p.first) (B.meaning p.second) };
 
-    ghost lawful = { Prim.search rules };
+    ghost lawful = { λ p. paired_lawful (A.meaning p.first) (B.meaning p.second) (A.lawful p.first) (B.lawful p.second) };
 
     fn size(&self) -> u8 {
         let first = u16::from(self.first.size());
@@ -141,9 +142,9 @@ pub struct Mirror<B> {
 }
 
 impl<B: Bank> Bank for Mirror<B> {
-    ghost meaning = { λ m. mirrored (B.Bank.meaning m.below) };
+    ghost meaning = { λ m. mirrored (B.meaning m.below) };
 
-    ghost lawful = { λ b. mirrored_lawful (B.Bank.meaning b.below) (B.Bank.lawful b.below) };
+    ghost lawful = { λ m. mirrored_lawful (B.meaning m.below) (B.lawful m.below) };
 
     fn size(&self) -> u8 {
         self.below.size()
@@ -165,9 +166,9 @@ pub struct Gains<B> {
 }
 
 impl<B: Bank> Bank for Gains<B> {
-    ghost meaning = { λ m. gaining (B.Bank.meaning m.below) };
+    ghost meaning = { λ m. gaining (B.meaning m.below) };
 
-    ghost lawful = { Prim.search rules };
+    ghost lawful = { λ m. gaining_lawful (B.meaning m.below) (B.lawful m.below) };
 
     fn size(&self) -> u8 {
         self.below.size()
@@ -218,7 +219,7 @@ impl Product {
 impl Bank for Product {
     ghost meaning = { λ _. five_kinds };
 
-    ghost lawful = { λ b. five_kinds_lawful };
+    ghost lawful = { λ _. five_kinds_lawful };
 
     fn size(&self) -> u8 {
         self.kinds.size()

@@ -1,4 +1,6 @@
 // A table of cases: each line's file is played, and its report and its ending are printed.
+#![tactic(auto)]
+
 ghost use Rattle.std.specs.Prelude.{◌≡◌, ℕ, ◌<◌, ◌≤◌, length, IfSome, IfOk, MatchBool, ◌≢◌, slice_index};
 ghost use Rattle.cases.specs.Hex.{byte_value, digit_value};
 

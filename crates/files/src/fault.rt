@@ -3,8 +3,8 @@ ghost use Rattle.files.specs.Faults.{fault_number};
 ghost use Rattle.files.specs.declared.fault.FileFault.TheVariants.{Plan as OfPlan, Reader as OfReader};
 ghost use Rattle.std.specs.Prelude.{◌≡◌};
 
-use fields::fault::ReaderFault;
 use plans::refusal::Refused;
+use records::fault::ReaderFault;
 
 /// A fault met at a record: the layer that gave it, and the fault whole.
 #[derive(Clone, Copy)]
@@ -29,7 +29,7 @@ impl From<ReaderFault> for FileFault {
     ghost from_gives = { λ f r. r ≡ OfReader f };
 
     fn from(fault: ReaderFault) -> FileFault {
-        Self::Reader(fault)
+        FileFault::Reader(fault)
     }
 }
 
@@ -37,7 +37,7 @@ impl From<Refused> for FileFault {
     ghost from_gives = { λ f r. r ≡ OfPlan f };
 
     fn from(refused: Refused) -> FileFault {
-        Self::Plan(refused)
+        FileFault::Plan(refused)
     }
 }
 

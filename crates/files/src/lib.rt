@@ -1,5 +1,6 @@
 // Playing a file of records, and the report of it.
-mod call;
+#![tactic(auto)]
+
 pub mod fault;
 mod line;
 pub mod play;

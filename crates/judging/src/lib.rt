@@ -1,4 +1,6 @@
 // Judging a candidate: the first rule that it breaks, else the lowest proper subset that satisfies the reduct.
+#![tactic(auto)]
+
 ghost use Rattle.judging.specs.Answers.{judge_answer_of, verdict_of};
 ghost use Rattle.rules.specs.Fits.{fit_rules};
 ghost use Rattle.plans.specs.PlanView.{plan_of};

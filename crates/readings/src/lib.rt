@@ -1,4 +1,6 @@
 // Readings of a tally: how its elements count and when it passes, at a candidate and a set inside it.
+#![tactic(auto)]
+
 ghost use Rattle.theory.specs.Readings.{LawfulReading, Reading as Meaning, ferraris, flp};
 ghost use Rattle.theory.specs.Sets.{contains};
 ghost use Rattle.std.specs.Prelude.{true, ◌≡◌};

@@ -1,4 +1,6 @@
 // Rules, their tallies and the elements of those.
+#![tactic(auto)]
+
 ghost use Rattle.rules.specs.Views.{relation_of, sign_of};
 ghost use Rattle.theory.specs.Calls.{known_relation, known_sign, relation_coded, sign_coded};
 ghost use Rattle.theory.specs.Rules.{negates, relates};

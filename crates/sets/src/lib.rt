@@ -1,4 +1,6 @@
 // Sets of at most 32 atoms.
+#![tactic(auto)]
+
 ghost use Rattle.sets.specs.Next.{Next};
 ghost use Rattle.theory.specs.Sets.{contains, misses, within};
 ghost use Rattle.std.specs.Prelude.{◌≡◌, true, ◌≢◌};

@@ -1,5 +1,5 @@
 -- The laws of sets; after this file nobody opens `has`, `contains`, `misses` or `within`.
-use Rattle.std.proofs.Common.{◌≡◌, ℕ, zero, suc, ◌+◌, ◌/◌, ◌%◌, ◌^◌, ◌<◌, ◌≤◌, min, Bool, true, false, ◌&&◌, eqb, ◌⊎◌, sym, refl, ap, ◌∙◌, ap₂, ⊎_elim, pow-suc, arith, pow_mono}
+use Rattle.std.proofs.Common.{◌≡◌, ℕ, zero, suc, ◌+◌, ◌/◌, ◌%◌, ◌^◌, ◌<◌, ◌≤◌, min, Bool, true, false, ◌&&◌, eqb, sym, refl, ap, ◌∙◌, ap₂, ⊎_elim, pow-suc, arith, pow_mono}
 use native.Mathlib.Nat.{div-eq_of_lt}
 use lib.Arith.{bin_ind}
 use lib.Bits.{bit_and, and_le_l, and_shr, and_step}

@@ -1,4 +1,6 @@
 // What is proved of the definitions alone: each theorem stands in the contract of a function that does nothing else.
+#![tactic(auto)]
+
 ghost use Rattle.theory.specs.Calls.{NamesByBytes};
 ghost use Rattle.theory.specs.Sets.{SetsByAtoms};
 ghost use Rattle.theory.specs.Worked.{Worked};

@@ -18,8 +18,8 @@ stepped g c =
     let e = rw (t, w) at c.step.ensures in
     (e, omega (arith, ints, e, l.short_step c.args.kind (neg_ℤ c.args.total) (neg_ℤ c.args.weight) c.requires.kinds q n))
 
-pub overflow-sub-result : goal.overflow-sub-result
-overflow-sub-result g c = omega (arith, ints, stepped g c)
+pub overflow_sub-result : goal.overflow_sub-result
+overflow_sub-result g c = omega (arith, ints, stepped g c)
 
 pub returns : goal.returns
 returns g c =

@@ -1,0 +1,47 @@
+// Why a record cannot be read.
+ghost use Rattle.records.specs.Faults.{reader_number};
+ghost use Rattle.records.specs.declared.fault.ReaderFault.TheVariants.{NoMemory};
+ghost use Rattle.std.specs.Prelude.{◌≡◌};
+
+use std::alloc::AllocError;
+
+/// Why a record cannot be read.
+#[derive(Clone, Copy)]
+pub enum ReaderFault {
+    /// The input ends before the next field does.
+    Short,
+    /// A mark that stands for no record here.
+    UnknownMark,
+    /// A letter that stands for no reading.
+    UnknownLetter,
+    /// More than 2 tallies.
+    TooManyTallies,
+    /// More than 12 elements.
+    TooManyElements,
+    /// No memory for a rule.
+    NoMemory,
+}
+
+impl ReaderFault {
+    /// The fault's number in reports.
+    pub fn number(self) -> u8
+        ensures { result ≡ reader_number self }
+    {
+        match self {
+            ReaderFault::Short => 1,
+            ReaderFault::UnknownMark => 2,
+            ReaderFault::UnknownLetter => 3,
+            ReaderFault::TooManyTallies => 9,
+            ReaderFault::TooManyElements => 9,
+            ReaderFault::NoMemory => 99,
+        }
+    }
+}
+
+impl From<AllocError> for ReaderFault {
+    ghost from_gives = { λ _ r. r ≡ NoMemory };
+
+    fn from(_error: AllocError) -> ReaderFault {
+        ReaderFault::NoMemory
+    }
+}
