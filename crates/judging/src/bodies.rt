@@ -16,14 +16,14 @@ use sets::AtomSet;
 /// as the plain definition does.
 pub fn plainly_holds<B: Bank>(bank: &B, set: AtomSet, tally: &Tally) -> bool
     requires { fit_tally (tally_of tally.now) ≡ true }
-    ensures { result ≡ fact (meaning bank.now) (tally_of tally.now) (counted set.0) }
+    ensures { result ≡ fact (B.meaning bank.now) (tally_of tally.now) (counted set.0) }
 {
     relation_holds(bank, &Flp, set, set, tally)
 }
 
 fn meets<B: Bank>(bank: &B, set: AtomSet, tally: &Tally) -> bool
     requires { fit_tally (tally_of tally.now) ≡ true }
-    ensures { result ≡ met (meaning bank.now) set.0 (tally_of tally.now) }
+    ensures { result ≡ met (B.meaning bank.now) set.0 (tally_of tally.now) }
 {
     let holds = plainly_holds(bank, set, tally);
     if tally.sign.is_negated() {
@@ -35,7 +35,7 @@ fn meets<B: Bank>(bank: &B, set: AtomSet, tally: &Tally) -> bool
 
 fn meets_all<B: Bank>(bank: &B, set: AtomSet, tallies: &[Tally]) -> bool
     requires { every fit_tally (map tally_of tallies.now) ≡ true }
-    ensures { result ≡ every (met (meaning bank.now) set.0) (map tally_of tallies.now) }
+    ensures { result ≡ every (met (B.meaning bank.now) set.0) (map tally_of tallies.now) }
 {
     for tally in tallies {
         if !meets(bank, set, tally) {
@@ -48,7 +48,7 @@ fn meets_all<B: Bank>(bank: &B, set: AtomSet, tallies: &[Tally]) -> bool
 /// Whether the set holds the rule's body.
 pub fn body_holds<B: Bank>(bank: &B, set: AtomSet, rule: &Rule) -> bool
     requires { fit_rule (rule_of rule.now) ≡ true }
-    ensures { result ≡ holds_body (meaning bank.now) set.0 (rule_of rule.now) }
+    ensures { result ≡ holds_body (B.meaning bank.now) set.0 (rule_of rule.now) }
 {
     set.contains(rule.must)
         && set.misses(rule.must_not)
@@ -57,7 +57,7 @@ pub fn body_holds<B: Bank>(bank: &B, set: AtomSet, rule: &Rule) -> bool
 
 fn rule_holds<B: Bank>(bank: &B, set: AtomSet, rule: &Rule) -> bool
     requires { fit_rule (rule_of rule.now) ≡ true }
-    ensures { result ≡ holds_rule (meaning bank.now) set.0 (rule_of rule.now) }
+    ensures { result ≡ holds_rule (B.meaning bank.now) set.0 (rule_of rule.now) }
 {
     !body_holds(bank, set, rule) || !set.misses(rule.head)
 }
@@ -66,7 +66,7 @@ fn rule_holds<B: Bank>(bank: &B, set: AtomSet, rule: &Rule) -> bool
 pub fn first_broken_place<B: Bank>(bank: &B, set: AtomSet, rules: &[Rule]) -> Option<u8>
     requires few { length rules.now ≤ 64 }
     requires fit { fit_rules (rules_of rules.now) ≡ true }
-    ensures { result ≡ first_broken (meaning bank.now) (rules_of rules.now) set.0 }
+    ensures { result ≡ first_broken (B.meaning bank.now) (rules_of rules.now) set.0 }
 {
     for (i, rule) in rules.iter().enumerate() {
         if !rule_holds(bank, set, rule) {

@@ -37,7 +37,7 @@ pub enum Verdict {
 fn found<B: Bank, R: Reading>(bank: &B, reading: &R, candidate: AtomSet, rules: &[Rule]) -> Verdict
     requires few { length rules.now ≤ 64 }
     requires fit { fit_rules (rules_of rules.now) ≡ true }
-    ensures { verdict_of result ≡ verdict (B.Bank.meaning bank.now) (R.Reading.meaning reading.now) (rules_of rules.now) candidate.0 }
+    ensures { verdict_of result ≡ verdict (B.meaning bank.now) (R.meaning reading.now) (rules_of rules.now) candidate.0 }
 {
     if let Some(place) = bodies::first_broken_place(bank, candidate, rules) {
         return Verdict::Broken(place);
@@ -54,7 +54,7 @@ pub fn judge<B: Bank, R: Reading>(
     reading: &R,
     candidate: AtomSet,
 ) -> Result<Verdict, Refusal>
-    ensures { judge_answer_of result ≡ judge_answer (B.Bank.meaning plan.now.bank) (R.Reading.meaning reading.now) (plan_of plan.now) candidate.0 }
+    ensures { judge_answer_of result ≡ judge_answer (B.meaning plan.now.bank) (R.meaning reading.now) (plan_of plan.now) candidate.0 }
 {
     if !candidate.is_within(plan.atoms()) {
         return Err(Refusal::UnnamedMark);

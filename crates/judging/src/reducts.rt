@@ -23,7 +23,7 @@ fn tally_passes<B: Bank, R: Reading>(
 ) -> bool
     requires inside { contains candidate.0 subset.0 ≡ true }
     requires fit { fit_tally (tally_of tally.now) ≡ true }
-    ensures { result ≡ passed (B.Bank.meaning bank.now) (R.Reading.meaning reading.now) candidate.0 subset.0 (tally_of tally.now) }
+    ensures { result ≡ passed (B.meaning bank.now) (R.meaning reading.now) candidate.0 subset.0 (tally_of tally.now) }
 {
     let for_candidate = plainly_holds(bank, candidate, tally);
     let for_subset = relation_holds(bank, reading, candidate, subset, tally);
@@ -39,7 +39,7 @@ fn all_pass<B: Bank, R: Reading>(
 ) -> bool
     requires inside { contains candidate.0 subset.0 ≡ true }
     requires fit { every fit_tally (map tally_of tallies.now) ≡ true }
-    ensures { result ≡ every (passed (B.Bank.meaning bank.now) (R.Reading.meaning reading.now) candidate.0 subset.0) (map tally_of tallies.now) }
+    ensures { result ≡ every (passed (B.meaning bank.now) (R.meaning reading.now) candidate.0 subset.0) (map tally_of tallies.now) }
 {
     for tally in tallies {
         if !tally_passes(bank, reading, candidate, subset, tally) {
@@ -59,7 +59,7 @@ fn rule_satisfied<B: Bank, R: Reading>(
 ) -> bool
     requires inside { contains candidate.0 subset.0 ≡ true }
     requires fit { fit_rule (rule_of rule.now) ≡ true }
-    ensures { result ≡ satisfies_rule (B.Bank.meaning bank.now) (R.Reading.meaning reading.now) candidate.0 subset.0 (rule_of rule.now) }
+    ensures { result ≡ satisfies_rule (B.meaning bank.now) (R.meaning reading.now) candidate.0 subset.0 (rule_of rule.now) }
 {
     !subset.contains(rule.must)
         || !subset.misses(rule.head)
@@ -76,7 +76,7 @@ fn reduct_satisfied<B: Bank, R: Reading>(
 ) -> bool
     requires inside { contains candidate.0 subset.0 ≡ true }
     requires fit { fit_rules (rules_of rules.now) ≡ true }
-    ensures { result ≡ satisfies (B.Bank.meaning bank.now) (R.Reading.meaning reading.now) (rules_of rules.now) candidate.0 subset.0 }
+    ensures { result ≡ satisfies (B.meaning bank.now) (R.meaning reading.now) (rules_of rules.now) candidate.0 subset.0 }
 {
     for rule in rules {
         if !rule_satisfied(bank, reading, candidate, subset, rule) {
@@ -94,7 +94,7 @@ pub fn lowest_satisfying<B: Bank, R: Reading>(
     rules: &[Rule],
 ) -> Option<AtomSet>
     requires { fit_rules (rules_of rules.now) ≡ true }
-    ensures { set_in result ≡ lowest_inside (B.Bank.meaning bank.now) (R.Reading.meaning reading.now) (rules_of rules.now) candidate.0 }
+    ensures { set_in result ≡ lowest_inside (B.meaning bank.now) (R.meaning reading.now) (rules_of rules.now) candidate.0 }
 {
     let mut subset = AtomSet(0);
     while subset.0 != candidate.0 {

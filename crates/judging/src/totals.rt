@@ -24,10 +24,10 @@ fn total<B: Bank, R: Reading>(
     elements: &[Element],
 ) -> i32
     requires inside { contains candidate.0 subset.0 ≡ true }
-    requires kinds { Kind (B.Bank.meaning bank.now) kind }
+    requires kinds { Kind (B.meaning bank.now) kind }
     requires few { length elements.now ≤ 12 }
     requires weights { every light (map element_of elements.now) ≡ true }
-    ensures { result ≡ running (B.Bank.meaning bank.now) (R.Reading.meaning reading.now) candidate.0 subset.0 kind elements.now }
+    ensures { result ≡ running (B.meaning bank.now) (R.meaning reading.now) candidate.0 subset.0 kind elements.now }
 {
     let mut sum = bank.empty(kind);
     for element in elements {
@@ -48,7 +48,7 @@ pub fn relation_holds<B: Bank, R: Reading>(
 ) -> bool
     requires inside { contains candidate.0 subset.0 ≡ true }
     requires fit { fit_tally (tally_of tally.now) ≡ true }
-    ensures { result ≡ fact (B.Bank.meaning bank.now) (tally_of tally.now) (counts_at (R.Reading.meaning reading.now) candidate.0 subset.0) }
+    ensures { result ≡ fact (B.meaning bank.now) (tally_of tally.now) (counts_at (R.meaning reading.now) candidate.0 subset.0) }
 {
     if tally.kind == 0 || tally.kind > bank.size() {
         return false;

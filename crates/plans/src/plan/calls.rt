@@ -37,8 +37,8 @@ impl<B: Bank> Plan<B> {
 
     /// Puts the rule at the end, and answers its place, counted from 1.
     pub fn enter(&mut self, rule: Rule) -> Result<u8, Refused>
-        ensures answer { enter_answer_of result ≡ enter_answer (meaning self.old.bank) (plan_of self.old) (rule_of rule) }
-        ensures after { plan_of self.new ≡ after_enter (meaning self.old.bank) (plan_of self.old) (rule_of rule) }
+        ensures answer { enter_answer_of result ≡ enter_answer (B.meaning self.old.bank) (plan_of self.old) (rule_of rule) }
+        ensures after { plan_of self.new ≡ after_enter (B.meaning self.old.bank) (plan_of self.old) (rule_of rule) }
         ensures bank { self.new.bank ≡ self.old.bank }
     {
         self.check_entry(&rule)?;

@@ -61,7 +61,7 @@ fn has_many_elements(tally: &Tally) -> bool
 
 // The tally's own fields.
 fn check_fields<B: Bank>(bank: &B, tally: &Tally, place: u8) -> Result<(), Refused>
-    ensures { refusal_in result ≡ first_applying (field_tests (meaning bank.now) place (tally_of tally.now)) }
+    ensures { refusal_in result ≡ first_applying (field_tests (B.meaning bank.now) place (tally_of tally.now)) }
 {
     let refusal = if tally.kind == 0 || tally.kind > bank.size() {
         Refusal::NoKind
@@ -84,7 +84,7 @@ fn check_fields<B: Bank>(bank: &B, tally: &Tally, place: u8) -> Result<(), Refus
 }
 
 fn check_tally<B: Bank>(bank: &B, atoms: u8, tally: &Tally, place: u8) -> Result<(), Refused>
-    ensures { refusal_in result ≡ first_applying (tally_tests (meaning bank.now) atoms place (tally_of tally.now)) }
+    ensures { refusal_in result ≡ first_applying (tally_tests (B.meaning bank.now) atoms place (tally_of tally.now)) }
 {
     check_fields(bank, tally, place)?;
     check_elements(atoms, tally.elements.as_slice(), place)
@@ -92,7 +92,7 @@ fn check_tally<B: Bank>(bank: &B, atoms: u8, tally: &Tally, place: u8) -> Result
 
 fn check_tallies<B: Bank>(bank: &B, atoms: u8, tallies: &[Tally]) -> Result<(), Refused>
     requires { length tallies.now ≤ 2 }
-    ensures { refusal_in result ≡ first_applying (tallies_tests (meaning bank.now) atoms 1 (map tally_of tallies.now)) }
+    ensures { refusal_in result ≡ first_applying (tallies_tests (B.meaning bank.now) atoms 1 (map tally_of tallies.now)) }
 {
     for (i, tally) in tallies.iter().enumerate() {
         check_tally(bank, atoms, tally, i as u8 + 1)?;
@@ -130,7 +130,7 @@ fn check_sets(atoms: u8, rule: &Rule) -> Result<(), Refused>
 impl<B: Bank> Plan<B> {
     // What enter tests of a rule; a rule that passes may be kept.
     pub(super) fn check_entry(&self, rule: &Rule) -> Result<(), Refused>
-        ensures tests { refusal_in result ≡ enter_refusal (meaning self.now.bank) (plan_of self.now) (rule_of rule.now) }
+        ensures tests { refusal_in result ≡ enter_refusal (B.meaning self.now.bank) (plan_of self.now) (rule_of rule.now) }
         ensures fit { OnOk result ((vec_len self.now.rules < 64) × (fit_rule (rule_of rule.now) ≡ true)) }
     {
         if self.rule_count() >= MAX_RULES {

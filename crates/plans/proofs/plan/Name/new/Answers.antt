@@ -5,5 +5,5 @@ use Rattle.plans.proofs.plan.Name.new.Goals as goal
 
 pub returns : goal.returns
 returns c =
-    let all = c.if-not-all-name-bytes.ensures in
-    (take_at c.copy-from-slice.new.self _ _ (search rules) ∙ c.copy-from-slice.ensures.after, grind (arith, nat_tests))
+    let all = c.if-not-all_name_bytes.ensures in
+    (take_at c.copy_from_slice.new.self _ _ (search rules) ∙ c.copy_from_slice.ensures.after, grind (arith, nat_tests))

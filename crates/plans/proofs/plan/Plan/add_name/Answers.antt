@@ -14,6 +14,6 @@ returns g c =
     let len = c.args.self.now.names.ok.0 in
     record {
       number = omega arith;
-      after = ap (with-names (plan_of c.args.self.now)) (ap texts_of c.push-reserved.ensures.items ∙ map_push text_of names c.args.name);
+      after = ap (with-names (plan_of c.args.self.now)) (ap texts_of c.push_reserved.ensures.items ∙ map_push text_of names c.args.name);
       bank = refl;
     }

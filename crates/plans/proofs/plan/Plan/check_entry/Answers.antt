@@ -21,29 +21,29 @@ passed : (bank : Bank) (plan : Plan) (rule : Rule) (n : ℕ) (r : Result (Unit {
 passed bank plan rule n (Ok done) room e = (room, entered_fit bank plan rule e)
 passed bank plan rule n (Err f) room e = tt
 
-pub returns-then-rule-count-ge-MAX-RULES : goal.returns-then-rule-count-ge-MAX-RULES
-returns-then-rule-count-ge-MAX-RULES g c =
+pub returns-then-rule_count-ge-MAX_RULES : goal.returns-then-rule_count-ge-MAX_RULES
+returns-then-rule_count-ge-MAX_RULES g c =
     let full : 64 ≤ length (plan_of c.args.self.now).rules = omega arith in
     record {
       tests = entry_full (g.B.Bank.meaning c.args.self.now.bank) (plan_of c.args.self.now) (rule_of c.args.rule.now) full;
       fit = tt;
     }
 
-pub returns-in-err-check-sets : goal.returns-in-err-check-sets
-returns-in-err-check-sets g c =
+pub returns-in_err-check_sets : goal.returns-in_err-check_sets
+returns-in_err-check_sets g c =
     let room : length (plan_of c.args.self.now).rules < 64 = omega arith in
     record {
-      tests = refused_by _ c.from-residual.result c.from-residual.ensures.1
+      tests = refused_by _ c.from_residual.result c.from_residual.ensures.1
           ∙ entry_joined (g.B.Bank.meaning c.args.self.now.bank) (plan_of c.args.self.now) (rule_of c.args.rule.now) room _
-          (c.in-err-check-sets.ensures ∙ ap (λ (n : ℕ). first_applying (rule_tests n (rule_of c.args.rule.now))) c.atom-count-atoms.ensures.value);
-      fit = IfOk-from_err c.from-residual.result _ c.from-residual.ensures.0;
+          (c.in_err-check_sets.ensures ∙ ap (λ (n : ℕ). first_applying (rule_tests n (rule_of c.args.rule.now))) c.atom_count-atoms.ensures.value);
+      fit = IfOk-from_err c.from_residual.result _ c.from_residual.ensures.0;
     }
 
-pub check-tallies-requires : goal.check-tallies-requires
-check-tallies-requires g c =
-    let few = sets_few c.atom-count-atoms.result (rule_of c.args.rule.now) c.in-ok-check-sets.ensures in
+pub check_tallies-requires : goal.check_tallies-requires
+check_tallies-requires g c =
+    let few = sets_few c.atom_count-atoms.result (rule_of c.args.rule.now) c.in_ok-check_sets.ensures in
     let same = length-map (vec_items c.args.rule.now.tallies) tally_of in
-    omega (arith, ap length c.as-slice.ensures.value)
+    omega (arith, ap length c.as_slice.ensures.value)
 
 pub returns : goal.returns
 returns g c =
@@ -51,10 +51,10 @@ returns g c =
     let plan = plan_of c.args.self.now in
     let rule = rule_of c.args.rule.now in
     let room : length plan.rules < 64 = omega arith in
-    let tests : refusal_in c.check-tallies.result ≡ enter_refusal bank plan rule =
-    c.check-tallies.ensures
-    ∙ ap (λ (xs : List Tally). first_applying (tallies_tests bank c.atom-count-atoms.result 1 (map tally_of xs))) c.as-slice.ensures.value
-    ∙ ap (λ (n : ℕ). first_applying (tallies_tests bank n 1 rule.tallies)) c.atom-count-atoms.ensures.value
+    let tests : refusal_in c.check_tallies.result ≡ enter_refusal bank plan rule =
+    c.check_tallies.ensures
+    ∙ ap (λ (xs : List Tally). first_applying (tallies_tests bank c.atom_count-atoms.result 1 (map tally_of xs))) c.as_slice.ensures.value
+    ∙ ap (λ (n : ℕ). first_applying (tallies_tests bank n 1 rule.tallies)) c.atom_count-atoms.ensures.value
     ∙ entry_joined bank plan rule room _
-    (c.in-ok-check-sets.ensures ∙ ap (λ (n : ℕ). first_applying (rule_tests n rule)) c.atom-count-atoms.ensures.value) in
-    record { tests = tests; fit = passed bank plan rule _ c.check-tallies.result (omega arith) tests }
+    (c.in_ok-check_sets.ensures ∙ ap (λ (n : ℕ). first_applying (rule_tests n rule)) c.atom_count-atoms.ensures.value) in
+    record { tests = tests; fit = passed bank plan rule _ c.check_tallies.result (omega arith) tests }

@@ -24,12 +24,12 @@ turn atoms t xs i =
 
 pub loop-i-preserved : goal.loop-i-preserved
 loop-i-preserved c =
-    turn c.args.atoms c.args.tally c.args.elements.now c.loop-i.i c.loop-i-test.true c.loop-i.invariant _ c.in-ok-check-element.ensures
+    turn c.args.atoms c.args.tally c.args.elements.now c.loop-i.i c.loop-i-test.true c.loop-i.invariant _ c.in_ok-check_element.ensures
 
-pub returns-in-err-check-element : goal.returns-in-err-check-element
-returns-in-err-check-element c =
-    refused_by _ c.from-residual.result c.from-residual.ensures.1
-    ∙ turn c.args.atoms c.args.tally c.args.elements.now c.loop-i.i c.loop-i-test.true c.loop-i.invariant _ c.in-err-check-element.ensures
+pub returns-in_err-check_element : goal.returns-in_err-check_element
+returns-in_err-check_element c =
+    refused_by _ c.from_residual.result c.from_residual.ensures.1
+    ∙ turn c.args.atoms c.args.tally c.args.elements.now c.loop-i.i c.loop-i-test.true c.loop-i.invariant _ c.in_err-check_element.ensures
 
 pub returns : goal.returns
 returns c =

@@ -23,13 +23,13 @@ turn bank atoms =
 pub loop-i-preserved : goal.loop-i-preserved
 loop-i-preserved g c =
     turn (g.B.Bank.meaning c.args.bank.now) c.args.atoms c.args.tallies.now c.loop-i.i c.index-tallies-i.result c.loop-i-test.true c.loop-i.invariant _
-    (c.in-ok-check-tally.ensures ∙ ap (one (g.B.Bank.meaning c.args.bank.now) c.args.atoms (c.loop-i.i + 1)) c.index-tallies-i.is)
+    (c.in_ok-check_tally.ensures ∙ ap (one (g.B.Bank.meaning c.args.bank.now) c.args.atoms (c.loop-i.i + 1)) c.index-tallies-i.is)
 
-pub returns-in-err-check-tally : goal.returns-in-err-check-tally
-returns-in-err-check-tally g c =
-    refused_by _ c.from-residual.result c.from-residual.ensures.1
+pub returns-in_err-check_tally : goal.returns-in_err-check_tally
+returns-in_err-check_tally g c =
+    refused_by _ c.from_residual.result c.from_residual.ensures.1
     ∙ turn (g.B.Bank.meaning c.args.bank.now) c.args.atoms c.args.tallies.now c.loop-i.i c.index-tallies-i.result c.loop-i-test.true c.loop-i.invariant _
-    (c.in-err-check-tally.ensures ∙ ap (one (g.B.Bank.meaning c.args.bank.now) c.args.atoms (c.loop-i.i + 1)) c.index-tallies-i.is)
+    (c.in_err-check_tally.ensures ∙ ap (one (g.B.Bank.meaning c.args.bank.now) c.args.atoms (c.loop-i.i + 1)) c.index-tallies-i.is)
 
 pub returns : goal.returns
 returns g c =

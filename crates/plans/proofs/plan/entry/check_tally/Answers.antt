@@ -10,11 +10,11 @@ use Rattle.plans.proofs.Firsts.{first_join, refused_by}
 use Rattle.plans.proofs.Untested.{fields_few}
 use Rattle.plans.proofs.plan.entry.check_tally.Goals as goal
 
-pub check-elements-requires : goal.check-elements-requires
-check-elements-requires g c =
-    let few = fields_few (g.B.Bank.meaning c.args.bank.now) c.args.place (tally_of c.args.tally.now) c.in-ok-check-fields.ensures in
+pub check_elements-requires : goal.check_elements-requires
+check_elements-requires g c =
+    let few = fields_few (g.B.Bank.meaning c.args.bank.now) c.args.place (tally_of c.args.tally.now) c.in_ok-check_fields.ensures in
     let same = length-map (vec_items c.args.tally.now.elements) element_of in
-    omega (arith, ap length c.as-slice.ensures.value)
+    omega (arith, ap length c.as_slice.ensures.value)
 
 -- what the fields give, then what the elements give
 joined : (bank : Bank) (atoms t : ℕ) (x : Tally) (o : Option Refused) → o ≡ first_applying (field_tests bank t x)
@@ -23,13 +23,13 @@ joined bank atoms t x o e =
     ap (λ (p : Option Refused). either_first p (first_applying (elements_tests atoms t 1 x.elements))) e
     ∙ sym (first_join (field_tests bank t x) (elements_tests atoms t 1 x.elements))
 
-pub returns-in-err-check-fields : goal.returns-in-err-check-fields
-returns-in-err-check-fields g c =
-    refused_by _ c.from-residual.result c.from-residual.ensures.1
-    ∙ joined (g.B.Bank.meaning c.args.bank.now) c.args.atoms c.args.place (tally_of c.args.tally.now) _ c.in-err-check-fields.ensures
+pub returns-in_err-check_fields : goal.returns-in_err-check_fields
+returns-in_err-check_fields g c =
+    refused_by _ c.from_residual.result c.from_residual.ensures.1
+    ∙ joined (g.B.Bank.meaning c.args.bank.now) c.args.atoms c.args.place (tally_of c.args.tally.now) _ c.in_err-check_fields.ensures
 
 pub returns : goal.returns
 returns g c =
-    c.check-elements.ensures
-    ∙ ap (λ (xs : List Stored). first_applying (elements_tests c.args.atoms c.args.place 1 (map element_of xs))) c.as-slice.ensures.value
-    ∙ joined (g.B.Bank.meaning c.args.bank.now) c.args.atoms c.args.place (tally_of c.args.tally.now) _ c.in-ok-check-fields.ensures
+    c.check_elements.ensures
+    ∙ ap (λ (xs : List Stored). first_applying (elements_tests c.args.atoms c.args.place 1 (map element_of xs))) c.as_slice.ensures.value
+    ∙ joined (g.B.Bank.meaning c.args.bank.now) c.args.atoms c.args.place (tally_of c.args.tally.now) _ c.in_ok-check_fields.ensures

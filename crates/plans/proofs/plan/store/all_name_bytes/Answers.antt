@@ -5,13 +5,13 @@ use Rattle.theory.specs.Lists.{every}
 use Rattle.theory.proofs.Lists.{loop_turn}
 use Rattle.plans.proofs.plan.store.all_name_bytes.Goals as goal
 
-pub returns-then-not-is-name-byte : goal.returns-then-not-is-name-byte
-returns-then-not-is-name-byte c =
-    loop_turn ◌&&◌ is_name_byte (every is_name_byte) (λ _ _. refl) c.args.bytes.now c.loop-byte.byte-index 0 c.loop-byte-test.true c.loop-byte.invariant _ c.if-not-is-name-byte.ensures
+pub returns-then-not-is_name_byte : goal.returns-then-not-is_name_byte
+returns-then-not-is_name_byte c =
+    loop_turn ◌&&◌ is_name_byte (every is_name_byte) (λ _ _. refl) c.args.bytes.now c.loop-byte.byte-index 0 c.loop-byte-test.true c.loop-byte.invariant _ c.if-not-is_name_byte.ensures
 
 pub loop-byte-preserved : goal.loop-byte-preserved
 loop-byte-preserved c =
-    loop_turn ◌&&◌ is_name_byte (every is_name_byte) (λ _ _. refl) c.args.bytes.now c.loop-byte.byte-index 0 c.loop-byte-test.true c.loop-byte.invariant _ c.if-not-is-name-byte.ensures
+    loop_turn ◌&&◌ is_name_byte (every is_name_byte) (λ _ _. refl) c.args.bytes.now c.loop-byte.byte-index 0 c.loop-byte-test.true c.loop-byte.invariant _ c.if-not-is_name_byte.ensures
 
 pub returns : goal.returns
 returns c = let e = at_drop_all (every is_name_byte) c.args.bytes.now c.loop-byte.byte-index (omega arith) in cc
