@@ -23,18 +23,18 @@ turn bank s us i u within is so_far b e =
     numbered_turn (one bank s) (all bank s) (λ k x xs. failing_more (holds_rule bank s) (rule_of x) (rules_of xs) k) us i u within so_far _
     (ap (failing_at (i + 1)) (e ∙ ap (λ (x : Rule). holds_rule bank s (rule_of x)) is))
 
-pub rule-holds-requires : goal.rule-holds-requires
-rule-holds-requires g c =
+pub rule_holds-requires : goal.rule_holds-requires
+rule_holds-requires g c =
     every_map_at fit_rule rule_of c.args.rules.now c.loop-i.i c.index-rules-i.result c.loop-i-test.true c.index-rules-i.is c.requires.fit
 
-pub returns-then-not-rule-holds : goal.returns-then-not-rule-holds
+pub returns-then-not-rule_holds : goal.returns-then-not-rule_holds
 unfolding first_broken
-returns-then-not-rule-holds g c =
-    turn (g.B.Bank.meaning c.args.bank.now) c.args.set.0 c.args.rules.now c.loop-i.i c.index-rules-i.result c.loop-i-test.true c.index-rules-i.is c.loop-i.invariant _ c.if-not-rule-holds.ensures
+returns-then-not-rule_holds g c =
+    turn (g.B.Bank.meaning c.args.bank.now) c.args.set.0 c.args.rules.now c.loop-i.i c.index-rules-i.result c.loop-i-test.true c.index-rules-i.is c.loop-i.invariant _ c.if-not-rule_holds.ensures
 
 pub loop-i-preserved : goal.loop-i-preserved
 loop-i-preserved g c =
-    turn (g.B.Bank.meaning c.args.bank.now) c.args.set.0 c.args.rules.now c.loop-i.i c.index-rules-i.result c.loop-i-test.true c.index-rules-i.is c.loop-i.invariant _ c.if-not-rule-holds.ensures
+    turn (g.B.Bank.meaning c.args.bank.now) c.args.set.0 c.args.rules.now c.loop-i.i c.index-rules-i.result c.loop-i-test.true c.index-rules-i.is c.loop-i.invariant _ c.if-not-rule_holds.ensures
 
 pub returns : goal.returns
 unfolding first_broken

@@ -30,20 +30,20 @@ loop-subset-init g c =
 
 pub loop-subset-smaller : goal.loop-subset-smaller
 loop-subset-smaller g c =
-    let above = c.next-inside-subset.ensures.above in
-    let within = contains_le c.args.candidate.0 c.next-inside-subset.result.0 c.next-inside-subset.ensures.inside in
+    let above = c.next_inside-subset.ensures.above in
+    let within = contains_le c.args.candidate.0 c.next_inside-subset.result.0 c.next_inside-subset.ensures.inside in
     omega arith
 
 pub loop-subset-preserved : goal.loop-subset-preserved
 loop-subset-preserved g c = (
-  c.next-inside-subset.ensures.inside,
-  further (g.B.Bank.meaning c.args.bank.now) (g.R.Reading.meaning c.args.reading.now) (rules_of c.args.rules.now) c.args.candidate.0 c.loop-subset.subset.0 c.next-inside-subset.result.0
-      c.next-inside-subset.ensures c.if-reduct-satisfied.ensures c.loop-subset.invariant.1,
+  c.next_inside-subset.ensures.inside,
+  further (g.B.Bank.meaning c.args.bank.now) (g.R.Reading.meaning c.args.reading.now) (rules_of c.args.rules.now) c.args.candidate.0 c.loop-subset.subset.0 c.next_inside-subset.result.0
+      c.next_inside-subset.ensures c.if-reduct_satisfied.ensures c.loop-subset.invariant.1,
 )
 
-pub returns-then-reduct-satisfied : goal.returns-then-reduct-satisfied
+pub returns-then-reduct_satisfied : goal.returns-then-reduct_satisfied
 unfolding lowest_inside
-returns-then-reduct-satisfied g c =
+returns-then-reduct_satisfied g c =
     let bank = g.B.Bank.meaning c.args.bank.now in
     let r = g.R.Reading.meaning c.args.reading.now in
     let rules = rules_of c.args.rules.now in
@@ -52,7 +52,7 @@ returns-then-reduct-satisfied g c =
     let proper = c.loop-subset-test.true in
     let below : j < i = omega (arith, contains_le i j c.loop-subset.invariant.0, proper) in
     sym (lowest_found (fits_inside bank r rules i) i j below
-    (and_from (contains i j) (satisfies bank r rules i j) c.loop-subset.invariant.0 (sym c.if-reduct-satisfied.ensures)) c.loop-subset.invariant.1)
+    (and_from (contains i j) (satisfies bank r rules i j) c.loop-subset.invariant.0 (sym c.if-reduct_satisfied.ensures)) c.loop-subset.invariant.1)
 
 pub returns : goal.returns
 unfolding lowest_inside

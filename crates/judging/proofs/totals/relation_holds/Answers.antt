@@ -19,8 +19,8 @@ total-sum-requires g c =
     record {
       inside = c.requires.inside;
       kinds = (omega arith, omega arith);
-      few = fit_few c.args.tally.now _ c.as-slice-elements.ensures.value c.requires.fit;
-      weights = fit_light c.args.tally.now _ c.as-slice-elements.ensures.value c.requires.fit;
+      few = fit_few c.args.tally.now _ c.as_slice-elements.ensures.value c.requires.fit;
+      weights = fit_light c.args.tally.now _ c.as_slice-elements.ensures.value c.requires.fit;
     }
 
 pub returns : goal.returns
@@ -29,4 +29,4 @@ returns g c =
     let h : SFits w32 c.args.tally.now.bound = search rules in
     simp to_z-of_z at c.holds.ensures
     ∙ fact_is (g.B.Bank.meaning c.args.bank.now) (g.R.Reading.meaning c.args.reading.now) c.args.candidate.0 c.args.subset.0 c.args.tally.now _ c.total-sum.result
-    (omega arith, omega arith) c.as-slice-elements.ensures.value c.total-sum.ensures
+    (omega arith, omega arith) c.as_slice-elements.ensures.value c.total-sum.ensures
