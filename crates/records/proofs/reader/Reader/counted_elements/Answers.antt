@@ -8,7 +8,7 @@ use Rattle.records.proofs.reader.Reader.counted_elements.Goals as goal
 
 pub loop-init : goal.loop-init
 loop-init c =
-    let made = c.in-ok-elements.ensures in (
+    let made = c.in_ok-elements.ensures in (
       made.len,
       made.capacity,
       ap (λ (xs : List Element). with_more read_element xs (c.args.count - 0) c.args.self.now.rest.now) (ap (map element_of) made.items)
@@ -16,8 +16,8 @@ loop-init c =
           ∙ repeat_none read_element c.args.count c.args.self.now.rest.now,
     )
 
-pub push-reserved-requires : goal.push-reserved-requires
-push-reserved-requires c = let inv = c.loop.invariant in omega arith
+pub push_reserved-requires : goal.push_reserved-requires
+push_reserved-requires c = let inv = c.loop.invariant in omega arith
 
 pub loop-preserved : goal.loop-preserved
 loop-preserved c =
@@ -26,15 +26,15 @@ loop-preserved c =
       omega arith,
       omega arith,
       ap (λ (xs : List Element). with_more read_element xs (c.args.count - (c.loop.counter + 1)) c.element.new.self.rest.now)
-          (ap (map element_of) c.push-reserved.ensures.items ∙ map_push element_of items c.in-ok-element.element)
-          ∙ sym (repeat_more read_element (map element_of items) c.args.count c.loop.counter c.loop.self.rest.now c.element.new.self.rest.now (element_of c.in-ok-element.element) c.loop-test.true c.in-ok-element.ensures)
+          (ap (map element_of) c.push_reserved.ensures.items ∙ map_push element_of items c.in_ok-element.element)
+          ∙ sym (repeat_more read_element (map element_of items) c.args.count c.loop.counter c.loop.self.rest.now c.element.new.self.rest.now (element_of c.in_ok-element.element) c.loop-test.true c.in_ok-element.ensures)
           ∙ inv.2,
     )
 
-pub returns-in-err-element : goal.returns-in-err-element
-returns-in-err-element c =
-    passed_on _ c.from-residual-in-err-element.result _ _ _ c.from-residual-in-err-element.ensures.1
-    (λ other. sym (repeat_failed read_element (map element_of (vec_items c.loop.elements)) c.args.count c.loop.counter c.loop.self.rest.now _ c.loop-test.true c.in-err-element.ensures) ∙ c.loop.invariant.2)
+pub returns-in_err-element : goal.returns-in_err-element
+returns-in_err-element c =
+    passed_on _ c.from_residual-in_err-element.result _ _ _ c.from_residual-in_err-element.ensures.1
+    (λ other. sym (repeat_failed read_element (map element_of (vec_items c.loop.elements)) c.args.count c.loop.counter c.loop.self.rest.now _ c.loop-test.true c.in_err-element.ensures) ∙ c.loop.invariant.2)
 
 pub returns : goal.returns
 returns c =

@@ -8,7 +8,7 @@ use Rattle.records.proofs.reader.Reader.counted_tallies.Goals as goal
 
 pub loop-init : goal.loop-init
 loop-init c =
-    let made = c.in-ok-tallies.ensures in (
+    let made = c.in_ok-tallies.ensures in (
       made.len,
       made.capacity,
       ap (λ (xs : List Tally). with_more read_tally xs (c.args.count - 0) c.args.self.now.rest.now) (ap (map tally_of) made.items)
@@ -16,8 +16,8 @@ loop-init c =
           ∙ repeat_none read_tally c.args.count c.args.self.now.rest.now,
     )
 
-pub push-reserved-requires : goal.push-reserved-requires
-push-reserved-requires c = let inv = c.loop.invariant in omega arith
+pub push_reserved-requires : goal.push_reserved-requires
+push_reserved-requires c = let inv = c.loop.invariant in omega arith
 
 pub loop-preserved : goal.loop-preserved
 loop-preserved c =
@@ -26,15 +26,15 @@ loop-preserved c =
       omega arith,
       omega arith,
       ap (λ (xs : List Tally). with_more read_tally xs (c.args.count - (c.loop.counter + 1)) c.tally.new.self.rest.now)
-          (ap (map tally_of) c.push-reserved.ensures.items ∙ map_push tally_of items c.in-ok-tally.tally)
-          ∙ sym (repeat_more read_tally (map tally_of items) c.args.count c.loop.counter c.loop.self.rest.now c.tally.new.self.rest.now (tally_of c.in-ok-tally.tally) c.loop-test.true c.in-ok-tally.ensures)
+          (ap (map tally_of) c.push_reserved.ensures.items ∙ map_push tally_of items c.in_ok-tally.tally)
+          ∙ sym (repeat_more read_tally (map tally_of items) c.args.count c.loop.counter c.loop.self.rest.now c.tally.new.self.rest.now (tally_of c.in_ok-tally.tally) c.loop-test.true c.in_ok-tally.ensures)
           ∙ inv.2,
     )
 
-pub returns-in-err-tally : goal.returns-in-err-tally
-returns-in-err-tally c =
-    passed_on _ c.from-residual-in-err-tally.result _ _ _ c.from-residual-in-err-tally.ensures.1
-    (λ other. sym (repeat_failed read_tally (map tally_of (vec_items c.loop.tallies)) c.args.count c.loop.counter c.loop.self.rest.now _ c.loop-test.true (c.in-err-tally.ensures other)) ∙ c.loop.invariant.2)
+pub returns-in_err-tally : goal.returns-in_err-tally
+returns-in_err-tally c =
+    passed_on _ c.from_residual-in_err-tally.result _ _ _ c.from_residual-in_err-tally.ensures.1
+    (λ other. sym (repeat_failed read_tally (map tally_of (vec_items c.loop.tallies)) c.args.count c.loop.counter c.loop.self.rest.now _ c.loop-test.true (c.in_err-tally.ensures other)) ∙ c.loop.invariant.2)
 
 pub returns : goal.returns
 returns c =
