@@ -74,7 +74,7 @@ fn judged<B: Bank>(
     reading: ReadingName,
     candidate: AtomSet,
 ) -> Result<Verdict, Refusal>
-    ensures { judge_answer_of result ≡ judge_answer (meaning plan.now.bank) (reading_of reading) (plan_of plan.now) candidate.0 }
+    ensures { judge_answer_of result ≡ judge_answer (B.meaning plan.now.bank) (reading_of reading) (plan_of plan.now) candidate.0 }
 {
     match reading {
         ReadingName::Flp => judge(plan, &Flp, candidate),
@@ -84,8 +84,8 @@ fn judged<B: Bank>(
 
 // The record's call on the plan.
 fn called<B: Bank>(plan: &mut Plan<B>, sent: Record) -> Result<Answer, Refused>
-    ensures said { said_in result ≡ called (meaning plan.old.bank) (plan_of plan.old) (record_of sent.entry) }
-    ensures after { plan_of plan.new ≡ after_call (meaning plan.old.bank) (plan_of plan.old) (record_of sent.entry) }
+    ensures said { said_in result ≡ called (B.meaning plan.old.bank) (plan_of plan.old) (record_of sent.entry) }
+    ensures after { plan_of plan.new ≡ after_call (B.meaning plan.old.bank) (plan_of plan.old) (record_of sent.entry) }
     ensures bank { plan.new.bank ≡ plan.old.bank }
 {
     match sent {
@@ -101,7 +101,7 @@ fn answered<B: Bank>(
     plan: &mut Plan<B>,
     reader: &mut Reader,
 ) -> Result<Answer, FileFault>
-    ensures steps { Steps result (plan_of plan.new) reader.new.rest.now (step (meaning plan.old.bank) (plan_of plan.old) reader.old.rest.now) }
+    ensures steps { Steps result (plan_of plan.new) reader.new.rest.now (step (B.meaning plan.old.bank) (plan_of plan.old) reader.old.rest.now) }
     ensures bank { plan.new.bank ≡ plan.old.bank }
 {
     let sent = reader.record(heap)?;
@@ -135,7 +135,7 @@ fn play_record<B: Bank>(
     requires small { size ≤ 65536 }
     requires within { length reader.old.rest.now ≤ size }
     requires room { written.old ≤ length report.old }
-    ensures played { RecordPlayed result (meaning plan.old.bank) (size - length reader.old.rest.now) (plan_of plan.old) (plan_of plan.new) reader.old.rest.now reader.new.rest.now report.old report.new written.old written.new }
+    ensures played { RecordPlayed result (B.meaning plan.old.bank) (size - length reader.old.rest.now) (plan_of plan.old) (plan_of plan.new) reader.old.rest.now reader.new.rest.now report.old report.new written.old written.new }
     ensures bank { plan.new.bank ≡ plan.old.bank }
 {
     if report.len() - *written < MAX_LINE {
@@ -161,7 +161,7 @@ fn play_records<B: Bank>(
 ) -> Result<(), PlayFault>
     requires small { length file.now ≤ 65536 }
     requires fresh { written.old ≡ 0 }
-    ensures { Plays (result_err result) report.old report.new written.new (play_from (meaning plan.old.bank) (length file.now) (length file.now) (length report.old) (plan_of plan.old) file.now) }
+    ensures { Plays (result_err result) report.old report.new written.new (play_from (B.meaning plan.old.bank) (length file.now) (length file.now) (length report.old) (plan_of plan.old) file.now) }
 {
     let mut reader = Reader::new(file);
     while reader.left() > 0 {

@@ -9,6 +9,6 @@ returns c =
     let k : (at + n) - at ≡ n = omega arith in
     record {
       end = refl;
-      after = ap₂ (λ (x y : List ℕ). take at c.args.report.now ++ (x ++ y)) c.copy-from-slice.ensures.after
+      after = ap₂ (λ (x y : List ℕ). take at c.args.report.now ++ (x ++ y)) c.copy_from_slice.ensures.after
           (drop-drop ((at + n) - at) at c.args.report.now ∙ ap (λ (m : ℕ). drop (at + m) c.args.report.now) k);
     }

@@ -11,15 +11,15 @@ parts word value =
     let b = length-append value (10 ∷ []) in
     omega arith
 
-pub put-past-word-requires : goal.put-past-word-requires
-put-past-word-requires c = let p = parts c.args.word.now c.args.value.now in omega arith
+pub put-past_word-requires : goal.put-past_word-requires
+put-past_word-requires c = let p = parts c.args.word.now c.args.value.now in omega arith
 
-pub put-past-value-requires : goal.put-past-value-requires
-put-past-value-requires c = let p = parts c.args.word.now c.args.value.now in omega (arith, c.put-past-word.auto.report)
+pub put-past_value-requires : goal.put-past_value-requires
+put-past_value-requires c = let p = parts c.args.word.now c.args.value.now in omega (arith, c.put-past_word.auto.report)
 
 pub put-requires : goal.put-requires
 put-requires c =
-    let p = parts c.args.word.now c.args.value.now in omega (arith, c.put-past-word.auto.report, c.put-past-value.auto.report)
+    let p = parts c.args.word.now c.args.value.now in omega (arith, c.put-past_word.auto.report, c.put-past_value.auto.report)
 
 pub returns : goal.returns
 returns c =
@@ -30,11 +30,11 @@ returns c =
     let p = parts word value in
     let within : at ≤ length report = omega arith in
     let l = length-append word value in
-    let two : c.put-past-value.new.report ≡ written report at (word ++ value) =
-    c.put-past-value.ensures.after
-    ∙ ap₂ (λ (r : List ℕ) (n : ℕ). written r n value) c.put-past-word.ensures.after c.put-past-word.ensures.end
+    let two : c.put-past_value.new.report ≡ written report at (word ++ value) =
+    c.put-past_value.ensures.after
+    ∙ ap₂ (λ (r : List ℕ) (n : ℕ). written r n value) c.put-past_word.ensures.after c.put-past_word.ensures.end
     ∙ written_more report at word value within in
-    let place : c.put-past-value.result ≡ at + length (word ++ value) = omega arith in
+    let place : c.put-past_value.result ≡ at + length (word ++ value) = omega arith in
     record {
       end = omega arith;
       after = c.put.ensures.after

@@ -18,8 +18,8 @@ loop-reader-init g c =
           (subst (λ (n : ℕ). SoFar bank (length file) before all before n (plan_of c.args.plan.now) file) (sym c.requires.fresh) none),
     )
 
-pub play-record-requires : goal.play-record-requires
-play-record-requires g c =
+pub play_record-requires : goal.play_record-requires
+play_record-requires g c =
     let so = c.loop-reader.invariant.1 in
     let len = same_length _ _ _ _ _ _ _ _ so in
     let room = so.room in
@@ -27,7 +27,7 @@ play-record-requires g c =
 
 pub loop-reader-smaller : goal.loop-reader-smaller
 loop-reader-smaller g c =
-    let p = c.in-ok-play-record.ensures.played in
+    let p = c.in_ok-play_record.ensures.played in
     subst (Shorter (length c.loop-reader.reader.rest.now)) (sym p.1.stepped)
     (step_shorter (g.B.Bank.meaning c.loop-reader.plan.bank) (plan_of c.loop-reader.plan) c.loop-reader.reader.rest.now)
 
@@ -35,21 +35,21 @@ pub loop-reader-preserved : goal.loop-reader-preserved
 loop-reader-preserved g c =
     let inv = c.loop-reader.invariant in
     let some : 0 < length c.loop-reader.reader.rest.now = omega arith in
-    let p = subst (λ b. RecordPlayed (Ok tt) (g.B.Bank.meaning b) (length c.args.file.now - length c.loop-reader.reader.rest.now) (plan_of c.loop-reader.plan) (plan_of c.play-record.new.plan) c.loop-reader.reader.rest.now c.play-record.new.reader.rest.now c.loop-reader.report c.play-record.new.report c.loop-reader.written c.play-record.new.written) inv.0 c.in-ok-play-record.ensures.played in (
-      c.play-record.ensures.bank ∙ inv.0,
+    let p = subst (λ b. RecordPlayed (Ok tt) (g.B.Bank.meaning b) (length c.args.file.now - length c.loop-reader.reader.rest.now) (plan_of c.loop-reader.plan) (plan_of c.play_record.new.plan) c.loop-reader.reader.rest.now c.play_record.new.reader.rest.now c.loop-reader.report c.play_record.new.report c.loop-reader.written c.play_record.new.written) inv.0 c.in_ok-play_record.ensures.played in (
+      c.play_record.ensures.bank ∙ inv.0,
       so_far_more _ _ _ _ c.loop-reader.report c.loop-reader.written (plan_of c.loop-reader.plan) c.loop-reader.reader.rest.now inv.1
-          c.play-record.new.report c.play-record.new.written (plan_of c.play-record.new.plan) c.play-record.new.reader.rest.now some p.0 p.1,
+          c.play_record.new.report c.play_record.new.written (plan_of c.play_record.new.plan) c.play_record.new.reader.rest.now some p.0 p.1,
     )
 
-pub returns-in-err-play-record : goal.returns-in-err-play-record
-returns-in-err-play-record g c =
+pub returns-in_err-play_record : goal.returns-in_err-play_record
+returns-in_err-play_record g c =
     let inv = c.loop-reader.invariant in
     let some : 0 < length c.loop-reader.reader.rest.now = omega arith in
-    let e = c.in-err-play-record.field-0.0 in
-    let p = subst (λ b. RecordPlayed (Err e) (g.B.Bank.meaning b) (length c.args.file.now - length c.loop-reader.reader.rest.now) (plan_of c.loop-reader.plan) (plan_of c.play-record.new.plan) c.loop-reader.reader.rest.now c.play-record.new.reader.rest.now c.loop-reader.report c.play-record.new.report c.loop-reader.written c.play-record.new.written) inv.0 c.in-err-play-record.ensures.played in
-    ended_by c.from-residual.result e _ _ _ _ c.from-residual.ensures.1
+    let e = c.in_err-play_record.field-0.0 in
+    let p = subst (λ b. RecordPlayed (Err e) (g.B.Bank.meaning b) (length c.args.file.now - length c.loop-reader.reader.rest.now) (plan_of c.loop-reader.plan) (plan_of c.play_record.new.plan) c.loop-reader.reader.rest.now c.play_record.new.reader.rest.now c.loop-reader.report c.play_record.new.report c.loop-reader.written c.play_record.new.written) inv.0 c.in_err-play_record.ensures.played in
+    ended_by c.from_residual.result e _ _ _ _ c.from_residual.ensures.1
     (so_far_ended _ _ _ _ c.loop-reader.report c.loop-reader.written (plan_of c.loop-reader.plan) c.loop-reader.reader.rest.now inv.1 e
-    c.play-record.new.report c.play-record.new.written (plan_of c.play-record.new.plan) c.play-record.new.reader.rest.now some p)
+    c.play_record.new.report c.play_record.new.written (plan_of c.play_record.new.plan) c.play_record.new.reader.rest.now some p)
 
 pub returns : goal.returns
 returns g c =
