@@ -21,7 +21,7 @@ unfolding step
 step_shorter bank plan bytes = by (read_record bytes) (record_fewer bytes)
   where
     by : (r : Read Sent) → Fewer (length bytes) r → Shorter (length bytes) (by_record bank plan r)
-    by (got sent rest) h = h
+    by (got sent rest) h = omega arith
     by (failed fault) h = tt
 
 module _ (bank : Bank) (size : ℕ) where

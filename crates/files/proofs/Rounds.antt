@@ -10,7 +10,7 @@ use Rattle.files.specs.declared.play.PlayFault.{PlayFault}
 use Rattle.files.specs.declared.play.PlayFault.TheVariants.{InputTooLong, ReportFull, NoMemory as OutOfMemory, Unreadable}
 use Rattle.files.specs.Lines.{Said, atom, entered, judged, written}
 use Rattle.files.specs.Plays.{Ending, input_ended, report_full, unreadable, Outcome, ends, after_line, line_at, unread_line, play_from, over, Exactly, Plays}
-use Rattle.files.specs.Turns.{Lined, Unlined, Goes_on, RecordPlayed}
+use Rattle.files.specs.Turns.{Lined, Unlined, GoesOn, RecordPlayed}
 use Rattle.files.proofs.Playing.{Shorter, step_shorter, play_done, play_full, play_on, play_stop, over_more, after_more}
 
 -- no line is longer than 20 bytes
@@ -61,7 +61,7 @@ module _ (bank : Bank) (size : ℕ) (before : List ℕ) (all : Outcome) where
 
     -- one record more
     pub so_far_more : (after : List ℕ) (to : ℕ) (plan' : Plan) (rest' : List ℕ) → 0 < length rest → 20 ≤ length report - count
-        → Goes_on bank (size - length rest) plan plan' rest rest' report after count to → SoFar bank size before all after to plan' rest'
+        → GoesOn bank (size - length rest) plan plan' rest rest' report after count to → SoFar bank size before all after to plan' rest'
     so_far_more after to plan' rest' some room' g =
         let line = line_at (size - length rest) g.answer in
         let len = same_length in

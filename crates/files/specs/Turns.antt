@@ -52,7 +52,7 @@ FaultPut r l before after from to = elim l.fault [
 ]
 
 -- a record that was read: its call's line was written
-pub record Goes_on (bank : Bank) (offset : ℕ) (plan plan' : Plan) (bytes rest before after : List ℕ) (from to : ℕ) : Type 0 where
+pub record GoesOn (bank : Bank) (offset : ℕ) (plan plan' : Plan) (bytes rest before after : List ℕ) (from to : ℕ) : Type 0 where
   pub answer : Result Said Refused
   pub stepped : answered answer plan' rest ≡ step bank plan bytes
   pub lined : Lined before after from to (line_at offset answer)
@@ -65,7 +65,7 @@ pub record Stops (bank : Bank) (offset : ℕ) (fault : ReaderFault) (plan : Plan
 -- one record, where the report has room for a line or has not
 abbrev pub RecordPlayed : Result (Unit {0}) PlayFault → Bank → ℕ → Plan → Plan → List ℕ → List ℕ → List ℕ → List ℕ → ℕ → ℕ → Type 0
 RecordPlayed (Ok done) bank offset plan plan' bytes rest before after from to =
-    (20 ≤ length before - from) × Goes_on bank offset plan plan' bytes rest before after from to
+    (20 ≤ length before - from) × GoesOn bank offset plan plan' bytes rest before after from to
 RecordPlayed (Err InputTooLong) bank offset plan plan' bytes rest before after from to = ⊥
 RecordPlayed (Err ReportFull) bank offset plan plan' bytes rest before after from to =
     (length before - from < 20) × Unlined before after from to

@@ -1,5 +1,5 @@
 -- Reading goes forward: a record takes at least its mark.
-use Rattle.std.proofs.Common.{ℕ, zero, suc, ◌-◌, ◌<◌, ◌≤◌, Bool, true, false, cond, ltb, List, length, take, drop, Ok, Err, Result, arith}
+use Rattle.std.proofs.Common.{ℕ, zero, suc, ◌+◌, ◌-◌, ◌≤◌, Bool, true, false, cond, ltb, List, length, take, drop, Ok, Err, Result, arith}
 use Rattle.std.proofs.lemmas.List.{length-drop}
 use Rattle.std.proofs.lemmas.Bool.{cond_both, ltb-false}
 use Rattle.records.specs.declared.fault.ReaderFault.{ReaderFault}
@@ -119,9 +119,9 @@ marked_forward TA bytes = tt
 marked_forward EL bytes = tt
 marked_forward JU bytes = judge_forward bytes
 
--- what is read leaves fewer bytes than there were
+-- what is read takes two bytes at least
 abbrev pub Fewer : {A : Type 0} → ℕ → Read A → Type 0
-Fewer n (got value rest) = length rest < n
+Fewer n (got value rest) = length rest + 2 ≤ n
 Fewer n (failed fault) = Unit {0}
 
 fewer_then : {A B : Type 0} (n : ℕ) (r : Read A) (next : A → List ℕ → Read B) → Fewer n r → ((a : A) → Forward (next a)) → Fewer n (and_then r next)
@@ -132,7 +132,7 @@ fewer_then {A} {B} n (got value rest) next h f = fewer (next value rest) (f valu
     fewer (failed fault) l = tt
 fewer_then {A} {B} n (failed fault) next h f = tt
 
-slice_fewer : (size : ℕ) (bytes : List ℕ) → 0 < size → Fewer (length bytes) (read_slice size bytes)
+slice_fewer : (size : ℕ) (bytes : List ℕ) → 2 ≤ size → Fewer (length bytes) (read_slice size bytes)
 slice_fewer size bytes some =
     cond_both (ltb (length bytes) size) (failed Short) (got (take size bytes) (drop size bytes)) (Fewer (length bytes))
     (λ e. tt) (λ e. let d = length-drop size bytes in let l = ltb-false (length bytes) size e in omega arith)

@@ -1,0 +1,12 @@
+pub mod Told
+pub mod Inducts
+pub mod Sound
+pub mod Grows
+pub mod Plain
+pub mod Digits
+pub mod Entries
+pub mod Refusals
+pub mod Rooms
+pub mod Turns
+pub mod Fitting
+pub mod Hearing
