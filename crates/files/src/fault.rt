@@ -29,7 +29,7 @@ impl From<ReaderFault> for FileFault {
     ghost from_gives = { λ f r. r ≡ OfReader f };
 
     fn from(fault: ReaderFault) -> FileFault {
-        FileFault::Reader(fault)
+        Self::Reader(fault)
     }
 }
 
@@ -37,7 +37,7 @@ impl From<Refused> for FileFault {
     ghost from_gives = { λ f r. r ≡ OfPlan f };
 
     fn from(refused: Refused) -> FileFault {
-        FileFault::Plan(refused)
+        Self::Plan(refused)
     }
 }
 

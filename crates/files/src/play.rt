@@ -43,7 +43,7 @@ impl From<AllocError> for PlayFault {
     ghost from_gives = { λ _ r. r ≡ OutOfMemory };
 
     fn from(_error: AllocError) -> PlayFault {
-        PlayFault::NoMemory
+        Self::NoMemory
     }
 }
 

@@ -42,6 +42,6 @@ impl From<AllocError> for ReaderFault {
     ghost from_gives = { λ _ r. r ≡ NoMemory };
 
     fn from(_error: AllocError) -> ReaderFault {
-        ReaderFault::NoMemory
+        Self::NoMemory
     }
 }
