@@ -3,7 +3,7 @@ use Rattle.std.proofs.Common.{◌≡◌, ℕ, zero, suc, ◌+◌, ◌-◌, ◌^�
 use native.Mathlib.Nat.{pow-le-pow_right}
 use Rattle.std.proofs.lemmas.List.{length-append}
 use Rattle.std.proofs.lemmas.Bool.{leb-false, ltb-true, not-false}
-use Rattle.std.specs.List.{AllByRecursion as All}
+use Rattle.std.specs.List.{AllByRecursion}
 use Rattle.theory.specs.Banks.{Bank}
 use Rattle.theory.specs.Readings.{Reading}
 use Rattle.theory.specs.Rules.{Element, Tally, Rule, holds_rule}
@@ -61,7 +61,7 @@ module _ {A : Type 0} (P : A → Type 0) where
       by None at h = right (sym at) f h
 
   -- tests that all answer so
-  first_all : (ts : List (Test A)) → All (λ t. P t.answer) ts → (f : A) → Some f ≡ first_applying ts → P f
+  first_all : (ts : List (Test A)) → AllByRecursion (λ t. P t.answer) ts → (f : A) → Some f ≡ first_applying ts → P f
   first_all [] h f e = let z : ◌≡◌ {A = ℕ} 1 0 = ap (λ (o : Option A). elim o [ Some g ↦ 1 | None ↦ 0 ]) e in absurd (omega arith)
   first_all (t ∷ ts) h f e = by t.applies (first_all ts h.1 f) e
     where
@@ -178,7 +178,7 @@ answer_fits bank plan (judge_sent reading i) small =
 
 -- ---- the answers of a run
 entries_fit : (bank : Bank) (size room : ℕ) (plan after : Plan) (bytes left : List ℕ) (entries : List Entry) → size ≤ 65536 → Small plan
-    → Run bank size room plan bytes entries after left → All EntryFits entries × Small after
+    → Run bank size room plan bytes entries after left → AllByRecursion EntryFits entries × Small after
 entries_fit bank size room plan after bytes left [] short small run = (tt, subst Small run.0 small)
 entries_fit bank size room plan after bytes left (entry ∷ entries) short small run =
     let sent = run.0 in

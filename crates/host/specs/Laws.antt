@@ -2,7 +2,7 @@
 -- enough.
 use Rattle.std.specs.Prelude.{◌≡◌, ℕ, ◌+◌, ◌-◌, ◌*◌, ◌%◌, ◌<◌, ◌≤◌, Bool, true, cond, List, [], ◌∷◌, ◌++◌, length, take, drop, Ok, Err, Result, ◌≢◌, slice_index}
 use Rattle.std.specs.Str.Parse.{digits_value}
-use Rattle.std.specs.List.{AllByRecursion as All}
+use Rattle.std.specs.List.{AllByRecursion}
 use Rattle.theory.specs.Banks.{Bank}
 use Rattle.theory.specs.Lists.{every}
 use Rattle.theory.specs.Calls.{Plan, Refused, number, new_plan, between}
@@ -108,7 +108,7 @@ abbrev pub NumbersFit : Type 0
 NumbersFit =
     Small new_plan
     × ((bank : Bank) (size room : ℕ) (plan after : Plan) (bytes left : List ℕ) (entries : List Entry) → size ≤ 65536 → Small plan
-    → Run bank size room plan bytes entries after left → All EntryFits entries × Small after)
+    → Run bank size room plan bytes entries after left → AllByRecursion EntryFits entries × Small after)
 
 -- ---- a line tells what it is the line of
 -- what a line says: a word and its numbers
