@@ -2,3 +2,4 @@ pub mod Joins
 pub mod Stepped
 pub mod Playing
 pub mod Rounds
+pub mod Copies

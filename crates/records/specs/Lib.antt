@@ -1,4 +1,1 @@
-pub mod Faults
-pub mod Letters
-pub mod Fields
 pub mod Records
