@@ -32,7 +32,7 @@ enum linenscribe_fault {
     LINENSCRIBE_INPUT_TOO_LONG = 12,
     /* Fewer than LINENSCRIBE_MAX_LINE bytes are left in the report, and there is another record. */
     LINENSCRIBE_REPORT_FULL = 26,
-    /* There was no memory. The report is as it was, and `written` is 0. */
+    /* There was no memory for the plan or for a rule. The lines that were written before stay. */
     LINENSCRIBE_NO_MEMORY = 99
 };
 
@@ -52,11 +52,10 @@ struct linenscribe_answer {
    be written. The two do not overlap, and neither is NULL, even where its length is 0.
    Bytes of the report past `written` keep what they held.
 
-   No state is kept between calls. Memory is asked for by malloc: as many bytes as the report has,
-   and some more for the plan and its rules. All of it is given back before the call returns. Since
-   it calls malloc, do not call it from a signal handler, nor in the forked child of a process with
-   threads. malloc must align a block to each power of two up to 16 that divides its size, as usual
-   ones do. */
+   No state is kept between calls. Memory is asked for by malloc, for the plan and its rules. All of
+   it is given back before the call returns. Since it calls malloc, do not call it from a signal
+   handler, nor in the forked child of a process with threads. malloc must align a block to each
+   power of two up to 16 that divides its size, as usual ones do. */
 struct linenscribe_answer linenscribe_play(const uint8_t *file, size_t file_len,
                                            uint8_t *report, size_t report_len);
 

@@ -1,6 +1,8 @@
 -- Hexadecimal digits, as bytes, and what they write.
-use Rattle.std.specs.Prelude.{ℕ, ◌+◌, ◌-◌, ◌*◌, cond, List, [], ◌∷◌, Some, None, Option}
-use Rattle.theory.specs.Calls.{between}
+use Rattle.std.specs.Prelude.{ℕ, ◌+◌, ◌-◌, ◌*◌, Bool, cond, ◌&&◌, List, [], ◌∷◌, Some, None, Option, nat_le}
+
+abbrev between : ℕ → ℕ → ℕ → Bool
+between low high n = nat_le low n && nat_le n high
 
 -- 0 to 9, a to f or A to F
 abbrev pub digit_value : ℕ → Option ℕ

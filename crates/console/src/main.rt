@@ -1,7 +1,7 @@
 // Plays standard input with a report of 65,536 bytes, and prints what was written.
 #![tactic(auto)]
 
-use host::linenscribe_play;
+use files::play::{Played, play};
 use std::io;
 use std::io::{Read, Write};
 
@@ -15,7 +15,7 @@ fn main(rt: HostRuntime) -> io::Result<()> {
     let mut file = Vec::new(heap);
     rt.stdin().take(LIMIT).read_to_end(&mut file)?;
     let mut report = Vec::from_elem(heap, 0u8, REPORT)?;
-    let answer = linenscribe_play(heap, file.as_slice(), report.as_mut_slice());
-    let end = answer.written;
+    let Played { written, fault: _ } = play(heap, file.as_slice(), report.as_mut_slice());
+    let end = written.min(report.len());
     rt.stdout().write_all(&report.as_slice()[0..end])
 }

@@ -2,4 +2,3 @@ pub mod Joins
 pub mod Stepped
 pub mod Playing
 pub mod Rounds
-pub mod Copies

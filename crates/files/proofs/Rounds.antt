@@ -8,16 +8,15 @@ use Rattle.theory.specs.Calls.{Plan, Refused}
 use Rattle.theory.specs.Verdicts.{broken, smaller, stable}
 use Rattle.files.specs.declared.play.PlayFault.{PlayFault}
 use Rattle.files.specs.declared.play.PlayFault.TheVariants.{InputTooLong, ReportFull, NoMemory as OutOfMemory, Unreadable}
-use Rattle.files.specs.Lines.{Said, atom, entered, done, judged, written}
-use Rattle.files.specs.Plays.{Ending, input_ended, report_full, unreadable, Outcome, ends, after_text, line_at, unread_line, play_from, over, Exactly}
-use Rattle.files.specs.Turns.{Lined, Unlined, Goes_on, RecordPlayed, Drafts}
+use Rattle.files.specs.Lines.{Said, atom, entered, judged, written}
+use Rattle.files.specs.Plays.{Ending, input_ended, report_full, unreadable, Outcome, ends, after_line, line_at, unread_line, play_from, over, Exactly, Plays}
+use Rattle.files.specs.Turns.{Lined, Unlined, GoesOn, RecordPlayed}
 use Rattle.files.proofs.Playing.{Shorter, step_shorter, play_done, play_full, play_on, play_stop, over_more, after_more}
 
 -- no line is longer than 20 bytes
 pub line_short : (offset : ℕ) (a : Result Said Refused) → length (line_at offset a) ≤ 20
 line_short offset (Ok (atom n)) = lit≤ tt
 line_short offset (Ok (entered n)) = lit≤ tt
-line_short offset (Ok done) = lit≤ tt
 line_short offset (Ok (judged (broken n))) = lit≤ tt
 line_short offset (Ok (judged (smaller s))) = lit≤ tt
 line_short offset (Ok (judged stable)) = lit≤ tt
@@ -30,7 +29,7 @@ pub record SoFar (bank : Bank) (size : ℕ) (before : List ℕ) (all : Outcome) 
   pub same : report ≡ over text before
   pub room : count ≤ length before
   pub within : length rest ≤ size
-  pub to_come : after_text text (play_from bank size (length rest) (length before - count) plan rest) ≡ all
+  pub to_come : after_line text (play_from bank size (length rest) (length before - count) plan rest) ≡ all
 
 module _ (bank : Bank) (size : ℕ) (before : List ℕ) (all : Outcome) where
   pub so_far_none : (plan : Plan) (file : List ℕ) → length file ≤ size → play_from bank size (length file) (length before) plan file ≡ all
@@ -62,7 +61,7 @@ module _ (bank : Bank) (size : ℕ) (before : List ℕ) (all : Outcome) where
 
     -- one record more
     pub so_far_more : (after : List ℕ) (to : ℕ) (plan' : Plan) (rest' : List ℕ) → 0 < length rest → 20 ≤ length report - count
-        → Goes_on bank (size - length rest) plan plan' rest rest' report after count to → SoFar bank size before all after to plan' rest'
+        → GoesOn bank (size - length rest) plan plan' rest rest' report after count to → SoFar bank size before all after to plan' rest'
     so_far_more after to plan' rest' some room' g =
         let line = line_at (size - length rest) g.answer in
         let len = same_length in
@@ -77,9 +76,9 @@ module _ (bank : Bank) (size : ℕ) (before : List ℕ) (all : Outcome) where
           room = omega arith;
           within = omega arith;
           to_come =
-              ap (λ (n : ℕ). after_text (so.text ++ line) (play_from bank size (length rest') n plan' rest')) (omega arith)
+              ap (λ (n : ℕ). after_line (so.text ++ line) (play_from bank size (length rest') n plan' rest')) (omega arith)
               ∙ sym (after_more so.text line (play_from bank size (length rest') ((length before - count) - length line) plan' rest'))
-              ∙ ap (after_text so.text) (sym (play_on bank size (length before - count) plan rest some (omega arith) g.answer plan' rest' g.stepped))
+              ∙ ap (after_line so.text) (sym (play_on bank size (length before - count) plan rest some (omega arith) g.answer plan' rest' g.stepped))
               ∙ so.to_come;
         }
 
@@ -91,37 +90,37 @@ module _ (bank : Bank) (size : ℕ) (before : List ℕ) (all : Outcome) where
     )
 
     -- the play ends at this record
-    ending : (line : List ℕ) (end : Ending) (left : Plan) (after : List ℕ) (to : ℕ) → play_from bank size (length rest) (length before - count) plan rest ≡ ends line end left
+    ending : (line : List ℕ) (end : Ending) (after : List ℕ) (to : ℕ) → play_from bank size (length rest) (length before - count) plan rest ≡ ends line end
         → after ≡ over (so.text ++ line) before → to ≡ length (so.text ++ line) → Exactly end before after to all
-    ending line end left after to p r b =
-        let e : ends (so.text ++ line) end left ≡ all = sym (ap (after_text so.text) p) ∙ so.to_come in
+    ending line end after to p r b =
+        let e : ends (so.text ++ line) end ≡ all = sym (ap (after_line so.text) p) ∙ so.to_come in
         subst (Exactly end before after to) e (record { ended = refl; bytes = b; report = r })
 
     -- nothing is left
     pub so_far_done : length rest ≡ 0 → Exactly input_ended before report count all
     so_far_done e =
         let u = unlined_over report count (record { end = refl; report = refl }) in
-        ending [] input_ended plan report count (play_done bank size (length rest) (length before - count) plan rest e) u.0 u.1
+        ending [] input_ended report count (play_done bank size (length rest) (length before - count) plan rest e) u.0 u.1
 
     pub so_far_ended : (e : PlayFault) (after : List ℕ) (to : ℕ) (plan' : Plan) (rest' : List ℕ) → 0 < length rest
-        → RecordPlayed (Err e) bank (size - length rest) plan plan' rest rest' report after count to → Drafts (Some e) before after to all
+        → RecordPlayed (Err e) bank (size - length rest) plan plan' rest rest' report after count to → Plays (Some e) before after to all
     so_far_ended InputTooLong after to plan' rest' some h = absurd h
     so_far_ended ReportFull after to plan' rest' some h =
         let len = same_length in
         let u = unlined_over after to h.1 in
-        ending [] report_full plan after to (play_full bank size (length before - count) plan rest some (omega (arith, h.0))) u.0 u.1
-    so_far_ended OutOfMemory after to plan' rest' some h = tt
+        ending [] report_full after to (play_full bank size (length before - count) plan rest some (omega (arith, h.0))) u.0 u.1
+    so_far_ended OutOfMemory after to plan' rest' some h = record { text = so.text; bytes = h.end ∙ so.bytes; report = h.report ∙ so.same }
     so_far_ended (Unreadable at f) after to plan' rest' some h =
         let s = h.2 in
         let len = same_length in
         subst (λ (n : ℕ). Exactly (unreadable n f) before after to all) (sym h.1)
-        (ending (unread_line (size - length rest) f) (unreadable (size - length rest) f) plan after to
+        (ending (unread_line (size - length rest) f) (unreadable (size - length rest) f) after to
         (play_stop bank size (length before - count) plan rest some (omega (arith, h.0)) f s.stepped)
         (lined_over after _ to s.lined) (lined_bytes after _ to s.lined))
 
 -- what a `?` passed on
 pub ended_by : (r : Result (Unit {0}) PlayFault) (e : PlayFault) (before after : List ℕ) (count : ℕ) (all : Outcome) → IsErrAnd r (λ x. x ≡ e)
-    → Drafts (Some e) before after count all → Drafts (result_err r) before after count all
+    → Plays (Some e) before after count all → Plays (result_err r) before after count all
 ended_by r e before after count all by h =
     let p = err_from_is_err_and r by in
-    subst (λ (o : Option PlayFault). Drafts o before after count all) (sym (ap result_err p.1 ∙ ap (λ (x : PlayFault). Some x) p.2)) h
+    subst (λ (o : Option PlayFault). Plays o before after count all) (sym (ap result_err p.1 ∙ ap (λ (x : PlayFault). Some x) p.2)) h

@@ -5,12 +5,12 @@ use Rattle.theory.specs.Banks.{Bank}
 use Rattle.theory.specs.Calls.{Plan, Refused}
 use Rattle.plans.specs.Refusals.{refused_of}
 use Rattle.plans.specs.declared.refusal.Refused.{Refused as StoredRefused}
-use Rattle.fields.specs.declared.fault.ReaderFault.{ReaderFault}
-use Rattle.fields.specs.declared.fault.ReaderFault.TheVariants.{NoMemory}
+use Rattle.records.specs.declared.fault.ReaderFault.{ReaderFault}
+use Rattle.records.specs.declared.fault.ReaderFault.TheVariants.{NoMemory}
 use Rattle.files.specs.declared.fault.FileFault.{FileFault}
 use Rattle.files.specs.declared.fault.FileFault.TheVariants.{Reader, Plan as OfPlan}
 use Rattle.files.specs.declared.line.Answer.{Answer}
-use Rattle.fields.specs.Fields.{got, failed}
+use Rattle.records.specs.Fields.{got, failed}
 use Rattle.files.specs.declared.play.PlayFault.{PlayFault}
 use Rattle.files.specs.declared.play.PlayFault.TheVariants.{InputTooLong, ReportFull, NoMemory as OutOfMemory, Unreadable}
 use Rattle.files.specs.Lines.{Said}
@@ -49,7 +49,7 @@ pub fault_played : (r : Result (Unit {0}) PlayFault) (fault : FileFault) (bank :
 fault_played (Ok done) (Reader f) bank offset plan plan' bytes rest before after from to put steps room = absurd put
 fault_played (Err InputTooLong) (Reader f) bank offset plan plan' bytes rest before after from to put steps room = absurd put
 fault_played (Err ReportFull) (Reader f) bank offset plan plan' bytes rest before after from to put steps room = absurd put
-fault_played (Err OutOfMemory) (Reader f) bank offset plan plan' bytes rest before after from to put steps room = (room, put.1)
+fault_played (Err OutOfMemory) (Reader f) bank offset plan plan' bytes rest before after from to put steps room = put.1
 fault_played (Err (Unreadable at g)) (Reader f) bank offset plan plan' bytes rest before after from to put steps room =
     (room, put.0, subst (λ (x : ReaderFault). Stops bank offset x plan bytes before after from to) (sym put.1) (record { stepped = steps put.2; lined = put.3 }))
 fault_played r (OfPlan f) bank offset plan plan' bytes rest before after from to put steps room =

@@ -2,7 +2,7 @@
 use Rattle.std.specs.Prelude.{ℕ}
 use Rattle.theory.specs.Calls.{number}
 use Rattle.plans.specs.Refusals.{refusal_of}
-use Rattle.fields.specs.Faults.{reader_number}
+use Rattle.records.specs.Faults.{reader_number}
 use Rattle.files.specs.declared.fault.FileFault.{FileFault}
 use Rattle.files.specs.declared.fault.FileFault.TheVariants.{Reader, Plan}
 

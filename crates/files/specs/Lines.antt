@@ -6,26 +6,21 @@ use Rattle.files.specs.declared.fault.FileFault.{FileFault}
 use Rattle.files.specs.declared.fault.FileFault.TheVariants.{Reader, Plan}
 use Rattle.files.specs.declared.fault.Located.{Located}
 use Rattle.files.specs.declared.line.Answer.{Answer}
-use Rattle.files.specs.declared.line.Answer.TheVariants.{Atom, Entered, Done, Judged}
+use Rattle.files.specs.declared.line.Answer.TheVariants.{Atom, Entered, Judged}
 use Rattle.files.specs.Faults.{fault_number}
 
--- what a call answers where it is not refused: the new atom's number, the new rule's place, that it is done, the verdict
+-- what a call answers where it is not refused: the new atom's number, the new rule's place, the verdict
 pub data Said : Type 0 where
   atom : ℕ → Said
   entered : ℕ → Said
-  done : Said
   judged : Verdict → Said
 
 abbrev pub said_of : Answer → Said
 said_of (Atom n) = atom n
 said_of (Entered place) = entered place
-said_of Done = done
 said_of (Judged v) = judged (verdict_of v)
 
--- a decimal digit, and two
-abbrev pub one_digit : ℕ → List ℕ
-one_digit n = (48 + n % 10) ∷ []
-
+-- two decimal digits
 abbrev pub two_digits : ℕ → List ℕ
 two_digits n = (48 + n / 10 % 10) ∷ (48 + n % 10) ∷ []
 
@@ -51,13 +46,12 @@ verdict_line stable = ended (codes "STABLE")
 abbrev pub said_line : Said → List ℕ
 said_line (atom n) = codes "ATOM " ++ ended (two_digits n)
 said_line (entered place) = codes "RULE " ++ ended (two_digits place)
-said_line done = ended (codes "DONE")
 said_line (judged v) = verdict_line v
 
 -- the refusal's number, the offset of the record's mark, and the places of the tally and of the element
 abbrev pub refusal_text : ℕ → ℕ → ℕ → ℕ → List ℕ
 refusal_text number offset tally element =
-    two_digits number ++ (32 ∷ (eight_hex offset ++ (32 ∷ (one_digit tally ++ (32 ∷ two_digits element)))))
+    two_digits number ++ (32 ∷ (eight_hex offset ++ (32 ∷ (48 + tally % 10) ∷ 32 ∷ two_digits element)))
 
 abbrev pub refusal_line : ℕ → ℕ → ℕ → ℕ → List ℕ
 refusal_line number offset tally element = codes "NO " ++ ended (refusal_text number offset tally element)

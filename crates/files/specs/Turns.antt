@@ -1,11 +1,11 @@
--- What the parts of a play say; `Plays` has what the whole says.
-use Rattle.std.specs.Prelude.{◌≡◌, ℕ, ◌+◌, ◌-◌, ◌<◌, ◌≤◌, List, length, Some, None, Ok, Err, Option, Result, ◌≢◌}
+-- What the parts of a play say of one record; `Plays` has what the whole says.
+use Rattle.std.specs.Prelude.{◌≡◌, ℕ, ◌+◌, ◌-◌, ◌<◌, ◌≤◌, List, length, Ok, Err, Result, ◌≢◌}
 use Rattle.theory.specs.Banks.{Bank}
 use Rattle.theory.specs.Calls.{Plan, Refused}
 use Rattle.plans.specs.Refusals.{refused_of}
 use Rattle.plans.specs.declared.refusal.Refused.{Refused as StoredRefused}
-use Rattle.fields.specs.declared.fault.ReaderFault.{ReaderFault}
-use Rattle.fields.specs.declared.fault.ReaderFault.TheVariants.{NoMemory}
+use Rattle.records.specs.declared.fault.ReaderFault.{ReaderFault}
+use Rattle.records.specs.declared.fault.ReaderFault.TheVariants.{NoMemory}
 use Rattle.files.specs.declared.fault.FileFault.{FileFault}
 use Rattle.files.specs.declared.fault.FileFault.TheVariants.{Reader, Plan as OfPlan}
 use Rattle.files.specs.declared.fault.Located.{Located}
@@ -13,7 +13,7 @@ use Rattle.files.specs.declared.line.Answer.{Answer}
 use Rattle.files.specs.declared.play.PlayFault.{PlayFault}
 use Rattle.files.specs.declared.play.PlayFault.TheVariants.{InputTooLong, ReportFull, NoMemory as OutOfMemory, Unreadable}
 use Rattle.files.specs.Lines.{Said, said_of, written}
-use Rattle.files.specs.Plays.{Step, answered, unread, step, line_at, unread_line, Ending, Outcome, ending_of, Exactly}
+use Rattle.files.specs.Plays.{Step, answered, unread, step, line_at, unread_line}
 
 -- what the code answered to a call
 abbrev pub said_in : Result Answer StoredRefused → Result Said Refused
@@ -52,7 +52,7 @@ FaultPut r l before after from to = elim l.fault [
 ]
 
 -- a record that was read: its call's line was written
-pub record Goes_on (bank : Bank) (offset : ℕ) (plan plan' : Plan) (bytes rest before after : List ℕ) (from to : ℕ) : Type 0 where
+pub record GoesOn (bank : Bank) (offset : ℕ) (plan plan' : Plan) (bytes rest before after : List ℕ) (from to : ℕ) : Type 0 where
   pub answer : Result Said Refused
   pub stepped : answered answer plan' rest ≡ step bank plan bytes
   pub lined : Lined before after from to (line_at offset answer)
@@ -65,27 +65,10 @@ pub record Stops (bank : Bank) (offset : ℕ) (fault : ReaderFault) (plan : Plan
 -- one record, where the report has room for a line or has not
 abbrev pub RecordPlayed : Result (Unit {0}) PlayFault → Bank → ℕ → Plan → Plan → List ℕ → List ℕ → List ℕ → List ℕ → ℕ → ℕ → Type 0
 RecordPlayed (Ok done) bank offset plan plan' bytes rest before after from to =
-    (20 ≤ length before - from) × Goes_on bank offset plan plan' bytes rest before after from to
+    (20 ≤ length before - from) × GoesOn bank offset plan plan' bytes rest before after from to
 RecordPlayed (Err InputTooLong) bank offset plan plan' bytes rest before after from to = ⊥
 RecordPlayed (Err ReportFull) bank offset plan plan' bytes rest before after from to =
     (length before - from < 20) × Unlined before after from to
-RecordPlayed (Err OutOfMemory) bank offset plan plan' bytes rest before after from to =
-    (20 ≤ length before - from) × Unlined before after from to
+RecordPlayed (Err OutOfMemory) bank offset plan plan' bytes rest before after from to = Unlined before after from to
 RecordPlayed (Err (Unreadable at fault)) bank offset plan plan' bytes rest before after from to =
     (20 ≤ length before - from) × (at ≡ offset) × Stops bank offset fault plan bytes before after from to
-
--- a draft of the report: exactly what it should be, unless memory was wanting
-abbrev pub Drafted : Option Ending → List ℕ → List ℕ → ℕ → Outcome → Type 0
-Drafted (Some ending) before after count should = Exactly ending before after count should
-Drafted None before after count should = Unit {0}
-
-abbrev pub Drafts : Option PlayFault → List ℕ → List ℕ → ℕ → Outcome → Type 0
-Drafts fault before after count should = Drafted (ending_of fault) before after count should
-
--- how many bytes of a draft are kept: none for want of memory
-abbrev pub kept_at : Option Ending → ℕ → ℕ
-kept_at (Some ending) count = count
-kept_at None count = 0
-
-abbrev pub kept_of : Option PlayFault → ℕ → ℕ
-kept_of fault count = kept_at (ending_of fault) count

@@ -3,8 +3,8 @@ ghost use Rattle.files.specs.Faults.{fault_number};
 ghost use Rattle.files.specs.declared.fault.FileFault.TheVariants.{Plan as OfPlan, Reader as OfReader};
 ghost use Rattle.std.specs.Prelude.{◌≡◌};
 
-use fields::fault::ReaderFault;
 use plans::refusal::Refused;
+use records::fault::ReaderFault;
 
 /// A fault met at a record: the layer that gave it, and the fault whole.
 #[derive(Clone, Copy)]

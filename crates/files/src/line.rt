@@ -13,8 +13,6 @@ pub enum Answer {
     Atom(u8),
     /// The new rule's place.
     Entered(u8),
-    /// A rule was withdrawn, or a weight changed.
-    Done,
     /// What judge said.
     Judged(Verdict),
 }
@@ -54,8 +52,8 @@ fn eight_hex(n: u32) -> [u8; 8]
     ]
 }
 
-/// Writes a text at an offset that has room for it, and gives the offset after it.
-pub fn put(report: &mut [u8], at: usize, text: &[u8]) -> usize
+// Writes a text at an offset, and gives the offset after it.
+fn put(report: &mut [u8], at: usize, text: &[u8]) -> usize
     requires { at + length text.now ≤ length report.old }
     ensures end { result ≡ at + length text.now }
     ensures after { report.new ≡ written report.old at text.now }
@@ -97,7 +95,6 @@ pub fn put_answer(report: &mut [u8], at: usize, answer: Answer) -> usize
     match answer {
         Answer::Atom(n) => put_line(report, at, b"ATOM ", &two_digits(n)),
         Answer::Entered(place) => put_line(report, at, b"RULE ", &two_digits(place)),
-        Answer::Done => put_line(report, at, b"DONE", b""),
         Answer::Judged(verdict) => put_verdict(report, at, verdict),
     }
 }

@@ -1,21 +1,26 @@
 // Playing a file: its records are calls on a new plan, and each is answered by a line of the report.
-ghost use Rattle.files.specs.Plays.{Plays, ending_number, played, playing, step};
-ghost use Rattle.files.specs.Turns.{Drafts, FaultPut, RecordPlayed, Steps, kept_of};
+ghost use Rattle.files.specs.Plays.{Plays, after_call, called, ending_number, play_from, playing, reading_of, step};
+ghost use Rattle.files.specs.Turns.{FaultPut, RecordPlayed, Steps, said_in};
+ghost use Rattle.records.specs.Records.{record_of};
 ghost use Rattle.files.specs.declared.play.PlayFault.TheVariants.{NoMemory as OutOfMemory};
+ghost use Rattle.judging.specs.Answers.{judge_answer_of};
 ghost use Rattle.plans.specs.PlanView.{plan_of};
 ghost use Rattle.std.specs.Result.{result_err};
-ghost use Rattle.theory.specs.Banks.{five_kinds};
-ghost use Rattle.theory.specs.Calls.{new_plan};
+ghost use Rattle.theory.specs.Calls.{judge_answer};
 ghost use Rattle.std.specs.Prelude.{◌≡◌, ◌+◌, ◌-◌, ◌≤◌, length};
 
-use crate::call::called;
 use crate::fault::{FileFault, Located};
-use crate::line::{Answer, MAX_LINE, put, put_answer, put_refusal};
+use crate::line::{Answer, MAX_LINE, put_answer, put_refusal};
 use banks::{Bank, Product};
-use fields::fault::ReaderFault;
-use fields::reader::Reader;
+use judging::{Verdict, judge};
 use plans::plan::Plan;
-use records::record::read_record;
+use plans::refusal::{Refusal, Refused};
+use readings::{Ferraris, Flp};
+use records::fault::ReaderFault;
+use records::letter::ReadingName;
+use records::reader::Reader;
+use records::record::Record;
+use sets::AtomSet;
 use std::alloc::{AllocError, Global};
 
 /// The most bytes that a file may have.
@@ -28,7 +33,7 @@ pub enum PlayFault {
     InputTooLong,
     /// Fewer than 20 bytes are left in the report, and there is another record.
     ReportFull,
-    /// No memory for the draft of the report, for the plan or for a rule; the report is as it was.
+    /// No memory for the plan or for a rule; no line is written for it.
     NoMemory,
     /// The record at this offset cannot be read; its line is written.
     Unreadable(u32, ReaderFault),
@@ -64,6 +69,32 @@ impl Played {
     }
 }
 
+fn judged<B: Bank>(
+    plan: &Plan<B>,
+    reading: ReadingName,
+    candidate: AtomSet,
+) -> Result<Verdict, Refusal>
+    ensures { judge_answer_of result ≡ judge_answer (B.meaning plan.now.bank) (reading_of reading) (plan_of plan.now) candidate.0 }
+{
+    match reading {
+        ReadingName::Flp => judge(plan, &Flp, candidate),
+        ReadingName::Ferraris => judge(plan, &Ferraris, candidate),
+    }
+}
+
+// The record's call on the plan.
+fn called<B: Bank>(plan: &mut Plan<B>, sent: Record) -> Result<Answer, Refused>
+    ensures said { said_in result ≡ called (B.meaning plan.old.bank) (plan_of plan.old) (record_of sent.entry) }
+    ensures after { plan_of plan.new ≡ after_call (B.meaning plan.old.bank) (plan_of plan.old) (record_of sent.entry) }
+    ensures bank { plan.new.bank ≡ plan.old.bank }
+{
+    match sent {
+        Record::Name(bytes) => Ok(Answer::Atom(plan.name(bytes)?)),
+        Record::Rule(rule) => Ok(Answer::Entered(plan.enter(rule)?)),
+        Record::Judge(reading, candidate) => Ok(Answer::Judged(judged(plan, reading, candidate)?)),
+    }
+}
+
 // A record is read whole before the plan sees it.
 fn answered<B: Bank>(
     heap: Global,
@@ -73,11 +104,11 @@ fn answered<B: Bank>(
     ensures steps { Steps result (plan_of plan.new) reader.new.rest.now (step (B.meaning plan.old.bank) (plan_of plan.old) reader.old.rest.now) }
     ensures bank { plan.new.bank ≡ plan.old.bank }
 {
-    let sent = read_record(reader, heap)?;
+    let sent = reader.record(heap)?;
     Ok(called(plan, sent)?)
 }
 
-// Writes the line of a refusal, which ends the play if the reader gave it; for want of memory there is no line.
+// Writes the line of a refusal, which ends the play if the reader gave it.
 fn put_fault(report: &mut [u8], written: &mut usize, located: Located) -> Result<(), PlayFault>
     requires { written.old + 20 ≤ length report.old }
     ensures { FaultPut result located report.old report.new written.old written.new }
@@ -130,57 +161,13 @@ fn play_records<B: Bank>(
 ) -> Result<(), PlayFault>
     requires small { length file.now ≤ 65536 }
     requires fresh { written.old ≡ 0 }
-    ensures { Drafts (result_err result) report.old report.new written.new (played (B.meaning plan.old.bank) (length file.now) (length report.old) (plan_of plan.old) file.now) }
+    ensures { Plays (result_err result) report.old report.new written.new (play_from (B.meaning plan.old.bank) (length file.now) (length file.now) (length report.old) (plan_of plan.old) file.now) }
 {
     let mut reader = Reader::new(file);
     while reader.left() > 0 {
         play_record(heap, plan, &mut reader, file.len(), report, written)?;
     }
     Ok(())
-}
-
-// The same on a new plan over the product's bank.
-fn play_anew(
-    heap: Global,
-    file: &[u8],
-    report: &mut [u8],
-    written: &mut usize,
-) -> Result<(), PlayFault>
-    requires small { length file.now ≤ 65536 }
-    requires fresh { written.old ≡ 0 }
-    ensures { Drafts (result_err result) report.old report.new written.new (played five_kinds (length file.now) (length report.old) new_plan file.now) }
-{
-    let mut plan = Plan::new(heap, Product::new())?;
-    play_records(heap, &mut plan, file, report, written)
-}
-
-// How many bytes of a draft are kept: none for want of memory.
-fn kept(ended: Result<(), PlayFault>, drafted: usize) -> usize
-    ensures { result ≡ kept_of (result_err ended) drafted }
-{
-    match ended {
-        Err(PlayFault::NoMemory) => 0,
-        _ => drafted,
-    }
-}
-
-// Plays into a draft, and copies it when the play has ended: so for want of memory the report is as it was.
-fn play_drafted(
-    heap: Global,
-    file: &[u8],
-    report: &mut [u8],
-    written: &mut usize,
-) -> Result<(), PlayFault>
-    requires small { length file.now ≤ 65536 }
-    requires fresh { written.old ≡ 0 }
-    ensures { Plays (result_err result) report.old report.new written.new (played five_kinds (length file.now) (length report.old) new_plan file.now) }
-{
-    let mut draft = Vec::from_elem(heap, 0, report.len())?;
-    let mut drafted = 0;
-    let ended = play_anew(heap, file, draft.as_mut_slice(), &mut drafted);
-    let end = kept(ended, drafted);
-    *written = put(report, 0, &draft.as_slice()[0..end]);
-    ended
 }
 
 // The file's length is tested first.
@@ -191,11 +178,11 @@ fn run(heap: Global, file: &[u8], report: &mut [u8], written: &mut usize) -> Res
     if file.len() > MAX_INPUT {
         return Err(PlayFault::InputTooLong);
     }
-    play_drafted(heap, file, report, written)
+    let mut plan = Plan::new(heap, Product::new())?;
+    play_records(heap, &mut plan, file, report, written)
 }
 
-/// Plays a file over the product's bank: the report gets a line for each record, and keeps every byte past them. For
-/// want of memory it is left as it was.
+/// Plays a file over the product's bank: the report gets a line for each record, and keeps every byte past them.
 pub fn play(heap: Global, file: &[u8], report: &mut [u8]) -> Played
     ensures { Plays result.fault report.old report.new result.written (playing file.now (length report.old)) }
 {

@@ -5,8 +5,8 @@ use Rattle.std.proofs.lemmas.Bool.{cond_both, ltb-true, ltb-false}
 use Rattle.std.proofs.lemmas.Bool.Decides.{nat_tests}
 use Rattle.std.specs.Str.Parse.{digits_value}
 use Rattle.std.specs.Char.{digit_value}
-use Rattle.files.specs.Lines.{one_digit, two_digits, hex_digit, eight_hex}
-use Rattle.host.specs.Laws.{DigitsReadBack}
+use Rattle.files.specs.Lines.{two_digits, hex_digit, eight_hex}
+use Rattle.host.specs.Laws.{one_digit, DigitsReadBack}
 
 digit_back : (d : ℕ) → d < 10 → digit_value (48 + d) ≡ d
 digit_back d h = grind (arith, nat_tests)

@@ -1,7 +1,7 @@
 -- No number of a report is cut to fit its digits.
-use Rattle.std.proofs.Common.{◌≡◌, ℕ, zero, suc, ◌+◌, ◌-◌, ◌^◌, ◌<◌, ◌≤◌, Bool, true, false, cond, leb, List, [], ◌∷◌, ◌++◌, length, take, drop, Some, None, Ok, Err, Option, sym, refl, ap, ◌∙◌, subst, arith, lit≤}
+use Rattle.std.proofs.Common.{◌≡◌, ℕ, zero, suc, ◌+◌, ◌-◌, ◌^◌, ◌<◌, ◌≤◌, Bool, true, false, cond, leb, List, [], ◌∷◌, ◌++◌, length, Some, None, Ok, Err, Option, sym, refl, ap, ◌∙◌, subst, arith, lit≤}
 use native.Mathlib.Nat.{pow-le-pow_right}
-use Rattle.std.proofs.lemmas.List.{length-append, length-take, length-drop}
+use Rattle.std.proofs.lemmas.List.{length-append}
 use Rattle.std.proofs.lemmas.Bool.{leb-false, ltb-true, not-false}
 use Rattle.std.specs.List.{AllByRecursion}
 use Rattle.theory.specs.Banks.{Bank}
@@ -9,14 +9,13 @@ use Rattle.theory.specs.Readings.{Reading}
 use Rattle.theory.specs.Rules.{Element, Tally, Rule, holds_rule}
 use Rattle.theory.specs.Sets.{within}
 use Rattle.theory.specs.Verdicts.{first_failing, first_broken, lowest, lowest_inside, fits_inside, by_place, by_subset, verdict}
-use Rattle.theory.specs.Calls.{Plan, Refusal, Refused, number, name_length, name_byte, name_borne, atoms_full, rules_full, unnamed_mark, too_many_tallies, too_many_elements, no_kind, no_relation, no_sign, far_bound, heavy_weight, no_such_place, too_many_marks, Test, first_applying, unless_refused, left_by, text_tests, atom_tests, name_refusal, element_tests, elements_tests, field_tests, tally_tests, tallies_tests, rule_tests, refuse_if, enter_refusal, withdraw_refusal, withdrawn, reweigh_refusal, reweighed_rule, judge_tests}
+use Rattle.theory.specs.Calls.{Plan, Refusal, Refused, number, name_length, name_byte, name_borne, atoms_full, rules_full, unnamed_mark, too_many_tallies, too_many_elements, no_kind, no_relation, no_sign, far_bound, heavy_weight, no_such_place, too_many_marks, Test, first_applying, unless_refused, left_by, text_tests, atom_tests, name_refusal, element_tests, elements_tests, field_tests, tally_tests, tallies_tests, rule_tests, refuse_if, enter_refusal, judge_tests}
 use Rattle.theory.proofs.Lists.{either_first}
 use Rattle.plans.proofs.Firsts.{first_join}
 use Rattle.plans.proofs.Untested.{none_all, fields_few}
 use Rattle.plans.proofs.Entries.{sets_few}
-use Rattle.plans.proofs.Places.{length_changed}
-use Rattle.records.specs.Records.{Sent, name_sent, rule_sent, withdraw_sent, reweigh_sent, judge_sent}
-use Rattle.files.specs.Lines.{Said, atom, entered, done, judged}
+use Rattle.records.specs.Records.{Sent, name_sent, rule_sent, judge_sent}
+use Rattle.files.specs.Lines.{Said, atom, entered, judged}
 use Rattle.files.specs.Plays.{said_as, unplaced, called, after_call, reading_of}
 use Rattle.host.specs.Laws.{Entry, entry_line, Run, Small, Fits, EntryFits, NumbersFit}
 
@@ -108,12 +107,6 @@ rule_room bank plan rule e =
     leb-false 64 (length plan.rules)
     (none_all (refuse_if (leb 64 (length plan.rules)) rules_full 0 0 ∷ rule_tests (length plan.names) rule ++ tallies_tests bank (length plan.names) 1 rule.tallies) e).0
 
-length_withdrawn : {A : Type 0} (place : ℕ) (xs : List A) → length (withdrawn place xs) ≤ length xs
-length_withdrawn place xs =
-    let a = length-append (take (place - 1) xs) (drop place xs) in
-    let t = length-take (place - 1) xs in
-    let d = length-drop place xs in omega arith
-
 -- ---- the numbers of a verdict
 failing_below : {A : Type 0} (p : A → Bool) (xs : List A) (k n : ℕ) → Some n ≡ first_failing p xs k → n < k + length xs
 unfolding first_failing
@@ -171,11 +164,6 @@ small_after bank plan (name_sent bytes) small =
 small_after bank plan (rule_sent rule) small =
     small_left (enter_refusal bank plan rule) plan _ small
     (λ e. let room = rule_room bank plan rule e in let l = length-append plan.rules (rule ∷ []) in (small.0, omega arith))
-small_after bank plan (withdraw_sent place) small =
-    small_left (withdraw_refusal plan place) plan _ small (λ e. let l = length_withdrawn place plan.rules in let n = small.1 in (small.0, omega arith))
-small_after bank plan (reweigh_sent r t x w) small =
-    small_left (reweigh_refusal plan r t x w) plan _ small
-    (λ e. let l = length_changed (reweighed_rule t x w) r plan.rules in let n = small.1 in (small.0, omega arith))
 small_after bank plan (judge_sent reading i) small = small
 
 answer_fits : (bank : Bank) (plan : Plan) (sent : Sent) → Small plan → Fits (called bank plan sent)
@@ -184,10 +172,6 @@ answer_fits bank plan (name_sent bytes) small =
 answer_fits bank plan (rule_sent rule) small =
     fits_unless entered (λ f. f) (suc (length plan.rules)) (enter_refusal bank plan rule) (λ e. let room = rule_room bank plan rule e in omega arith)
     (λ f e. let p = enter_placed bank plan rule f e in (number_small f.refusal, p.0, p.1))
-answer_fits bank plan (withdraw_sent place) small =
-    fits_unless {A = Unit {0}} (λ _. done) unplaced tt (withdraw_refusal plan place) (λ e. tt) (λ f e. unplaced_fits f)
-answer_fits bank plan (reweigh_sent r t x w) small =
-    fits_unless {A = Unit {0}} (λ _. done) unplaced tt (reweigh_refusal plan r t x w) (λ e. tt) (λ f e. unplaced_fits f)
 answer_fits bank plan (judge_sent reading i) small =
     fits_unless judged unplaced (verdict bank (reading_of reading) plan.rules i) (first_applying (judge_tests plan i))
     (λ e. verdict_fits bank (reading_of reading) plan.rules i small.1 (candidate_small plan i small e)) (λ f e. unplaced_fits f)

@@ -2,14 +2,14 @@
 use Rattle.std.proofs.Common.{◌≡◌, ℕ, zero, suc, Bool, true, false, cond, ltb, List, ◌++◌, length, take, drop, Ok, Err, Result, sym, refl, ◌∙◌, subst, ap₂, arith}
 use Rattle.std.proofs.lemmas.List.{length-append, take-append-le, drop-append-le}
 use Rattle.std.proofs.lemmas.Bool.{cond-false, ltb-false, le-ltb}
-use Rattle.fields.specs.declared.fault.ReaderFault.{ReaderFault}
-use Rattle.fields.specs.declared.fault.ReaderFault.TheVariants.{Short, UnknownMark}
-use Rattle.fields.specs.declared.mark.Mark.{Mark}
-use Rattle.fields.specs.declared.mark.Mark.TheVariants.{Name, Rule, Tally, Element, Withdraw, Reweigh, Judge}
-use Rattle.fields.specs.Fields.{Read, got, failed, and_then, read_in, read_slice, read_byte, read_word, read_signed}
-use Rattle.fields.specs.Letters.{letter_answer}
-use Rattle.fields.specs.Marks.{read_mark, is_tally, is_element, expect}
-use Rattle.records.specs.Records.{Sent, repeated, read_element, read_elements, read_tally, read_tallies, read_rule, read_name, read_withdraw, read_reweigh, read_judge, read_marked, read_record}
+use Rattle.records.specs.declared.fault.ReaderFault.{ReaderFault}
+use Rattle.records.specs.declared.fault.ReaderFault.TheVariants.{Short, UnknownMark}
+use Rattle.records.specs.declared.record.Mark.{Mark}
+use Rattle.records.specs.declared.record.Mark.TheVariants.{Name, Rule, Tally, Element, Judge}
+use Rattle.records.specs.Fields.{Read, got, failed, and_then, read_in, read_slice, read_byte, read_word, read_signed}
+use Rattle.records.specs.Letters.{letter_answer}
+use Rattle.records.specs.Records.{read_mark, is_tally, is_element, expect}
+use Rattle.records.specs.Records.{Sent, repeated, read_element, read_elements, read_tally, read_tallies, read_rule, read_name, read_judge, read_marked, read_record}
 
 -- a part that is read is read so with more bytes after it
 abbrev Same : {A : Type 0} → List ℕ → Read A → Read A → Type 0
@@ -104,16 +104,6 @@ rule_stays bytes more =
 name_stays : Stays read_name
 name_stays bytes more = same_then more (read_byte bytes) _ _ (byte_stays bytes more) λ size. slice_stays size
 
-withdraw_stays : Stays read_withdraw
-withdraw_stays bytes more = same_then more (read_byte bytes) _ _ (byte_stays bytes more) λ place rest more. refl
-
-reweigh_stays : Stays read_reweigh
-reweigh_stays bytes more =
-    same_then more (read_byte bytes) _ _ (byte_stays bytes more) λ rule rest more.
-    same_then more (read_byte rest) _ _ (byte_stays rest more) λ tally rest more.
-    same_then more (read_byte rest) _ _ (byte_stays rest more) λ element rest more.
-    same_then more (read_signed rest) _ _ (signed_stays rest more) λ weight rest more. refl
-
 judge_stays : Stays read_judge
 judge_stays bytes more =
     same_then more (read_byte bytes) _ _ (byte_stays bytes more) λ letter rest more.
@@ -125,8 +115,6 @@ marked_stays Name bytes more = same_then more (read_name bytes) _ _ (name_stays 
 marked_stays Rule bytes more = same_then more (read_rule bytes) _ _ (rule_stays bytes more) λ rule rest more. refl
 marked_stays Tally bytes more = tt
 marked_stays Element bytes more = tt
-marked_stays Withdraw bytes more = withdraw_stays bytes more
-marked_stays Reweigh bytes more = reweigh_stays bytes more
 marked_stays Judge bytes more = judge_stays bytes more
 
 pub record_stays : (bytes more : List ℕ) (sent : Sent) (rest : List ℕ) → read_record bytes ≡ got sent rest → read_record (bytes ++ more) ≡ got sent (rest ++ more)

@@ -2,13 +2,13 @@
 use Rattle.std.proofs.Common.{◌≡◌, ℕ, ◌<◌, Ok, Err, Result, refl, ap, ◌∙◌, lit≤}
 use Rattle.theory.specs.Calls.{Refused, number}
 use Rattle.theory.specs.Verdicts.{broken, smaller, stable}
-use Rattle.fields.specs.declared.fault.ReaderFault.{ReaderFault}
-use Rattle.fields.specs.declared.fault.ReaderFault.TheVariants.{Short, UnknownMark, UnknownLetter, TooManyTallies, TooManyElements, NoMemory}
-use Rattle.fields.specs.Faults.{reader_number}
+use Rattle.records.specs.declared.fault.ReaderFault.{ReaderFault}
+use Rattle.records.specs.declared.fault.ReaderFault.TheVariants.{Short, UnknownMark, UnknownLetter, TooManyTallies, TooManyElements, NoMemory}
+use Rattle.records.specs.Faults.{reader_number}
 use Rattle.std.specs.Str.Parse.{digits_value}
-use Rattle.files.specs.Lines.{Said, atom, entered, done, judged, one_digit, two_digits, eight_hex, refusal_line}
+use Rattle.files.specs.Lines.{Said, atom, entered, judged, two_digits, eight_hex, refusal_line}
 use Rattle.files.specs.Plays.{line_at}
-use Rattle.host.specs.Laws.{heard_atom, heard_rule, heard_broken, heard_smaller, heard_no, hear, said_of, Fits, LinesTell}
+use Rattle.host.specs.Laws.{one_digit, heard_atom, heard_rule, heard_broken, heard_smaller, heard_no, hear, said_of, Fits, LinesTell}
 use Rattle.host.proofs.Digits.{one_back, two_back, eight_back}
 
 no_tells : (n offset tally element : ℕ) → n < 100 → offset < 4294967296 → tally < 10 → element < 100
@@ -22,7 +22,6 @@ no_tells n offset tally element a b c d =
 answer_tells : (offset : ℕ) (answer : Result Said Refused) → Fits answer → offset < 4294967296 → hear (line_at offset answer) ≡ said_of offset answer
 answer_tells offset (Ok (atom n)) fits small = ap heard_atom (two_back n fits)
 answer_tells offset (Ok (entered n)) fits small = ap heard_rule (two_back n fits)
-answer_tells offset (Ok done) fits small = refl
 answer_tells offset (Ok (judged (broken n))) fits small = ap heard_broken (two_back n fits)
 answer_tells offset (Ok (judged (smaller s))) fits small = ap heard_smaller (eight_back s fits)
 answer_tells offset (Ok (judged stable)) fits small = refl

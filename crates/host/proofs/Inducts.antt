@@ -3,13 +3,14 @@ use Rattle.std.proofs.Common.{◌≡◌, ℕ, zero, suc, ◌+◌, ◌-◌, ◌<�
 use Rattle.std.proofs.lemmas.Bool.{cases_lt}
 use Rattle.theory.specs.Banks.{Bank}
 use Rattle.theory.specs.Calls.{Plan}
-use Rattle.fields.specs.declared.fault.ReaderFault.{ReaderFault}
-use Rattle.fields.specs.Fields.{Read, got, failed}
+use Rattle.records.specs.declared.fault.ReaderFault.{ReaderFault}
+use Rattle.records.specs.Fields.{Read, got, failed}
 use Rattle.records.specs.Records.{Sent, read_record}
 use Rattle.records.proofs.Shrinks.{Fewer, record_fewer}
-use Rattle.files.specs.Plays.{called, after_call, input_ended, report_full, unreadable, Outcome, ends, after_text, line_at, unread_line, played}
+use Rattle.files.specs.Plays.{called, after_call, input_ended, report_full, unreadable, Outcome, ends, after_line, line_at, unread_line}
 use Rattle.files.proofs.Playing.{play_done, play_full, play_on, play_stop}
 use Rattle.files.proofs.Stepped.{step_got, step_failed}
+use Rattle.host.specs.Laws.{played}
 
 module _ (bank : Bank) (size : ℕ) where
   -- the line of a record's call, where these bytes are left
@@ -18,24 +19,24 @@ module _ (bank : Bank) (size : ℕ) where
 
   module _ (room : ℕ) (plan : Plan) (bytes : List ℕ) (some : 0 < length bytes) (enough : 20 ≤ room) where
     pub goes_on : (sent : Sent) (rest : List ℕ) → read_record bytes ≡ got sent rest
-        → played bank size room plan bytes ≡ after_text (its_line plan bytes sent) (played bank size (room - length (its_line plan bytes sent)) (after_call bank plan sent) rest)
+        → played bank size room plan bytes ≡ after_line (its_line plan bytes sent) (played bank size (room - length (its_line plan bytes sent)) (after_call bank plan sent) rest)
     goes_on sent rest e =
         play_on bank size room plan bytes some enough (called bank plan sent) (after_call bank plan sent) rest
         (step_got bank plan bytes rest sent (called bank plan sent) (after_call bank plan sent) (sym e) refl refl)
 
     pub stops : (fault : ReaderFault) → read_record bytes ≡ failed fault
-        → played bank size room plan bytes ≡ ends (unread_line (size - length bytes) fault) (unreadable (size - length bytes) fault) plan
+        → played bank size room plan bytes ≡ ends (unread_line (size - length bytes) fault) (unreadable (size - length bytes) fault)
     stops fault e = play_stop bank size room plan bytes some enough fault (step_failed bank plan bytes fault (sym e))
 
   -- a property of plays that holds where nothing is left, where there is no room, where a record cannot be read, and of a play
   -- with one record more than one that has it
   module _ (P : ℕ → Plan → List ℕ → Outcome → Type 0)
-      (at_end : (room : ℕ) (plan : Plan) → P room plan [] (ends [] input_ended plan))
-      (full : (room : ℕ) (plan : Plan) (bytes : List ℕ) → 0 < length bytes → room < 20 → P room plan bytes (ends [] report_full plan))
+      (at_end : (room : ℕ) (plan : Plan) → P room plan [] (ends [] input_ended))
+      (full : (room : ℕ) (plan : Plan) (bytes : List ℕ) → 0 < length bytes → room < 20 → P room plan bytes (ends [] report_full))
       (stop : (room : ℕ) (plan : Plan) (bytes : List ℕ) (fault : ReaderFault) → 0 < length bytes → 20 ≤ room → read_record bytes ≡ failed fault
-      → P room plan bytes (ends (unread_line (size - length bytes) fault) (unreadable (size - length bytes) fault) plan))
+      → P room plan bytes (ends (unread_line (size - length bytes) fault) (unreadable (size - length bytes) fault)))
       (on : (room : ℕ) (plan : Plan) (bytes : List ℕ) (sent : Sent) (rest : List ℕ) (more : Outcome) → 20 ≤ room → read_record bytes ≡ got sent rest → length rest + 2 ≤ length bytes
-      → P (room - length (its_line plan bytes sent)) (after_call bank plan sent) rest more → P room plan bytes (after_text (its_line plan bytes sent) more)) where
+      → P (room - length (its_line plan bytes sent)) (after_call bank plan sent) rest more → P room plan bytes (after_line (its_line plan bytes sent) more)) where
     -- by what the next record reads as
     module _ (room : ℕ) (plan : Plan) (bytes : List ℕ) (some : 0 < length bytes) (enough : 20 ≤ room)
         (rest_has : (r : ℕ) (p : Plan) (rest : List ℕ) → length rest < length bytes → P r p rest (played bank size r p rest)) where

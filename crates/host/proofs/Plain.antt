@@ -4,7 +4,7 @@ use Rattle.std.proofs.lemmas.Bool.{and_from, and_parts, le-leb, cond_both}
 use Rattle.theory.specs.Lists.{every}
 use Rattle.theory.specs.Calls.{Refused}
 use Rattle.theory.specs.Verdicts.{broken, smaller, stable}
-use Rattle.files.specs.Lines.{Said, atom, entered, done, judged, two_digits, hex_digit, eight_hex, refusal_text, refusal_line}
+use Rattle.files.specs.Lines.{Said, atom, entered, judged, two_digits, hex_digit, eight_hex, refusal_text, refusal_line}
 use Rattle.files.specs.Plays.{line_at}
 use Rattle.host.specs.Laws.{printable, ALine, LinesAreText}
 
@@ -54,7 +54,6 @@ refusal_a_line number offset tally element =
 a_line : (offset : ℕ) (answer : Result Said Refused) → ALine (line_at offset answer)
 a_line offset (Ok (atom n)) = record { short = lit≤ tt; body = codes "ATOM " ++ two_digits n; ended = refl; plain = every_join printable (codes "ATOM ") (two_digits n) refl (two n) }
 a_line offset (Ok (entered n)) = record { short = lit≤ tt; body = codes "RULE " ++ two_digits n; ended = refl; plain = every_join printable (codes "RULE ") (two_digits n) refl (two n) }
-a_line offset (Ok done) = record { short = lit≤ tt; body = codes "DONE"; ended = refl; plain = refl }
 a_line offset (Ok (judged (broken n))) = record { short = lit≤ tt; body = codes "BROKEN " ++ two_digits n; ended = refl; plain = every_join printable (codes "BROKEN ") (two_digits n) refl (two n) }
 a_line offset (Ok (judged (smaller s))) = record { short = lit≤ tt; body = codes "SMALLER " ++ eight_hex s; ended = refl; plain = every_join printable (codes "SMALLER ") (eight_hex s) refl (eight s) }
 a_line offset (Ok (judged stable)) = record { short = lit≤ tt; body = codes "STABLE"; ended = refl; plain = refl }

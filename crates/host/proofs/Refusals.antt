@@ -1,7 +1,7 @@
 -- A refused call leaves the plan as it was.
 use Rattle.std.proofs.Common.{◌≡◌, ℕ, Some, None, Ok, Err, Option, Result, refl, ap, arith}
-use Rattle.theory.specs.Calls.{Plan, Refused, unless_refused, left_by, name_refusal, enter_refusal, withdraw_refusal, reweigh_refusal}
-use Rattle.records.specs.Records.{name_sent, rule_sent, withdraw_sent, reweigh_sent, judge_sent}
+use Rattle.theory.specs.Calls.{Plan, Refused, unless_refused, left_by, name_refusal, enter_refusal}
+use Rattle.records.specs.Records.{name_sent, rule_sent, judge_sent}
 use Rattle.files.specs.Lines.{Said}
 use Rattle.files.specs.Plays.{said_as}
 use Rattle.host.specs.Laws.{RefusalsLeaveThePlan}
@@ -15,6 +15,4 @@ left None answer say place plan after refused e =
 pub refusals_leave_the_plan : RefusalsLeaveThePlan
 refusals_leave_the_plan bank plan (name_sent bytes) refused e = left (name_refusal plan bytes) _ _ _ plan _ refused e
 refusals_leave_the_plan bank plan (rule_sent rule) refused e = left (enter_refusal bank plan rule) _ _ _ plan _ refused e
-refusals_leave_the_plan bank plan (withdraw_sent place) refused e = left (withdraw_refusal plan place) _ _ _ plan _ refused e
-refusals_leave_the_plan bank plan (reweigh_sent r t x w) refused e = left (reweigh_refusal plan r t x w) _ _ _ plan _ refused e
 refusals_leave_the_plan bank plan (judge_sent reading i) refused e = refl

@@ -3,17 +3,19 @@ use Rattle.std.proofs.Common.{ℕ, zero, suc, ◌<◌, Bool, eqb, ltb, List, [],
 use Rattle.std.proofs.lemmas.Bool.{cond_both}
 use Rattle.theory.specs.Banks.{five_kinds}
 use Rattle.theory.specs.Calls.{new_plan}
-use Rattle.fields.specs.declared.fault.ReaderFault.{ReaderFault}
-use Rattle.fields.specs.declared.fault.ReaderFault.TheVariants.{Short, UnknownMark, UnknownLetter, TooManyTallies, TooManyElements}
-use Rattle.fields.specs.declared.letter.ReadingName.TheVariants.{Flp, Ferraris}
-use Rattle.fields.specs.declared.mark.Mark.{Mark}
-use Rattle.fields.specs.declared.mark.Mark.TheVariants.{Name, Rule, Tally, Element, Withdraw, Reweigh, Judge}
-use Rattle.fields.specs.Faults.{reader_number}
-use Rattle.fields.specs.Fields.{Read, got, failed, and_then, read_in, read_slice, read_byte, read_word, read_signed}
-use Rattle.fields.specs.Letters.{letter_answer}
-use Rattle.fields.specs.Marks.{marked, mark_of, read_mark, is_tally, is_element, expect}
+use Rattle.records.specs.declared.fault.ReaderFault.{ReaderFault}
+use Rattle.records.specs.declared.fault.ReaderFault.TheVariants.{Short, UnknownMark, UnknownLetter, TooManyTallies, TooManyElements}
+use Rattle.records.specs.declared.letter.ReadingName.TheVariants.{Flp, Ferraris}
+use Rattle.records.specs.declared.record.Mark.{Mark}
+use Rattle.records.specs.declared.record.Mark.TheVariants.{Name, Rule, Tally, Element, Judge}
+use Rattle.records.specs.Faults.{reader_number}
+use Rattle.records.specs.Fields.{Read, got, failed, and_then, read_in, read_slice, read_byte, read_word, read_signed}
+use Rattle.records.specs.Letters.{letter_answer}
+use Rattle.records.specs.Records.{marked, mark_of, read_mark, is_tally, is_element, expect}
 use Rattle.records.specs.Records.{repeated, read_element, read_elements, read_tally, read_tallies, read_rule, read_name, read_marked, read_record}
-use Rattle.files.specs.Plays.{input_too_long, number_of_ending, ends, played, playing}
+use Rattle.files.specs.Plays.{input_too_long, ends, playing}
+use Rattle.host.specs.Answers.{number_of_ending}
+use Rattle.host.specs.Laws.{played}
 use Rattle.host.proofs.Inducts.{every_play}
 
 -- a fault that is told has a number below 99
@@ -52,8 +54,6 @@ mark_low a b =
     cond_both (marked a b 82 85) _ _ Low (λ e. tt) λ e.
     cond_both (marked a b 84 65) _ _ Low (λ e. tt) λ e.
     cond_both (marked a b 69 76) _ _ Low (λ e. tt) λ e.
-    cond_both (marked a b 87 68) _ _ Low (λ e. tt) λ e.
-    cond_both (marked a b 82 87) _ _ Low (λ e. tt) λ e.
     cond_both (marked a b 74 85) (Ok Judge) (Err UnknownMark) Low (λ e. tt) λ e. lit≤ tt
 
 letter_low : (byte : ℕ) → Low (letter_answer byte)
@@ -109,12 +109,6 @@ marked_sound Name bytes =
 marked_sound Rule bytes = sound_then (read_rule bytes) _ (rule_sound bytes) λ rule rest. tt
 marked_sound Tally bytes = lit≤ tt
 marked_sound Element bytes = lit≤ tt
-marked_sound Withdraw bytes = sound_then (read_byte bytes) _ (byte_sound bytes) λ place rest. tt
-marked_sound Reweigh bytes =
-    sound_then (read_byte bytes) _ (byte_sound bytes) λ rule rest.
-    sound_then (read_byte rest) _ (byte_sound rest) λ tally rest.
-    sound_then (read_byte rest) _ (byte_sound rest) λ element rest.
-    sound_then (read_signed rest) _ (signed_sound rest) λ weight rest. tt
 marked_sound Judge bytes =
     sound_then (read_byte bytes) _ (byte_sound bytes) λ letter rest.
     sound_then (read_in (λ r. r) (letter_answer letter) rest) _ (low_sound (letter_answer letter) rest (letter_low letter)) λ reading rest.
@@ -125,7 +119,7 @@ record_sound bytes = sound_then (read_mark bytes) read_marked (mark_sound bytes)
 
 pub told_below : (file : List ℕ) (room : ℕ) → number_of_ending (playing file room).ending < 99
 told_below file room =
-    cond_both (ltb 65536 (length file)) (ends [] input_too_long new_plan) (played five_kinds (length file) room new_plan file) (λ o. number_of_ending o.ending < 99)
+    cond_both (ltb 65536 (length file)) (ends [] input_too_long) (played five_kinds (length file) room new_plan file) (λ o. number_of_ending o.ending < 99)
     (λ e. lit≤ tt)
     (λ e. every_play five_kinds (length file) (λ room plan bytes o. number_of_ending o.ending < 99) (λ room plan. lit≤ tt) (λ room plan bytes some none. lit≤ tt)
     (λ room plan bytes fault some enough e. subst Sound e (record_sound bytes)) (λ room plan bytes sent rest more enough e fewer h. h) room new_plan file)

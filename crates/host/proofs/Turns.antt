@@ -1,53 +1,45 @@
 -- Two files' bytes, one after the other.
-use Rattle.std.proofs.Common.{◌≡◌, ℕ, ◌+◌, ◌-◌, ◌≤◌, List, [], ◌++◌, length, sym, refl, ap, ◌∙◌, subst, arith}
+use Rattle.std.proofs.Common.{◌≡◌, ℕ, ◌-◌, ◌<◌, List, [], ◌∷◌, ◌++◌, length, sym, ap, ◌∙◌, subst, ap₂, arith}
 use Rattle.std.proofs.lemmas.List.{length-append}
 use Rattle.theory.specs.Banks.{Bank}
 use Rattle.theory.specs.Calls.{Plan}
-use Rattle.fields.specs.Fields.{got}
+use Rattle.records.specs.Fields.{got}
 use Rattle.records.specs.Records.{Sent, read_record}
-use Rattle.files.specs.Plays.{called, after_call, Ending, input_ended, input_too_long, report_full, unreadable, Outcome, ends, after_text, line_at, played}
+use Rattle.records.proofs.Shrinks.{Fewer, record_fewer}
+use Rattle.files.specs.Plays.{called, after_call, after_line, line_at}
 use Rattle.files.proofs.Playing.{after_more}
-use Rattle.host.specs.Laws.{then_played, InTurn}
+use Rattle.host.specs.Laws.{played, Entry, entry_line, lines, Run, InTurn}
 use Rattle.host.proofs.Grows.{record_stays}
-use Rattle.host.proofs.Inducts.{its_line, goes_on, every_play}
+use Rattle.host.proofs.Inducts.{its_line, goes_on}
 
--- told apart from the end of the input
-abbrev has_ended : Ending → ℕ
-has_ended input_ended = 1
-has_ended input_too_long = 0
-has_ended report_full = 0
-has_ended (unreadable at fault) = 0
-
-unlike : {A : Type 0} (e : Ending) → has_ended e ≡ 0 → e ≡ input_ended → A
-unlike e z f = let k = ap has_ended f in absurd (omega arith)
+-- a record that is read has bytes
+some_bytes : (bytes rest : List ℕ) (sent : Sent) → read_record bytes ≡ got sent rest → 0 < length bytes
+some_bytes bytes rest sent e = let f = subst (Fewer (length bytes)) e (record_fewer bytes) in omega arith
 
 module _ (bank : Bank) (size : ℕ) (second : List ℕ) where
   abbrev before : ℕ
   before = size - length second
 
-  abbrev P : ℕ → Plan → List ℕ → Outcome → Type 0
-  P room plan first play = play.ending ≡ input_ended
-      → played bank size room plan (first ++ second) ≡ after_text play.text (played bank size (room - length play.text) play.plan second)
-
-  at_end : (room : ℕ) (plan : Plan) → P room plan [] (ends [] input_ended plan)
-  at_end room plan e = ap (λ (n : ℕ). played bank size n plan second) (omega arith)
-
-  on : (room : ℕ) (plan : Plan) (first : List ℕ) (sent : Sent) (rest : List ℕ) (more : Outcome) → 20 ≤ room → read_record first ≡ got sent rest → length rest + 2 ≤ length first
-      → P (room - length (its_line bank before plan first sent)) (after_call bank plan sent) rest more → P room plan first (after_text (its_line bank before plan first sent) more)
-  on room plan first sent rest more enough e fewer h ended =
+  turn : (room : ℕ) (plan after : Plan) (first : List ℕ) (entries : List Entry) → Run bank before room plan first entries after []
+      → played bank size room plan (first ++ second) ≡ after_line (lines entries) (played bank size (room - length (lines entries)) after second)
+  turn room plan after first [] run =
+      ap₂ (λ (p : Plan) (bytes : List ℕ). played bank size room p (bytes ++ second)) run.0 run.1
+      ∙ ap (λ (n : ℕ). played bank size n after second) (omega arith)
+  turn room plan after first (entry ∷ entries) run =
+      let sent = run.0 in
+      let rest = run.1 in
       let line = its_line bank before plan first sent in
+      let some = some_bytes first rest sent run.3 in
       let l = length-append first second in
       let place : size - length (first ++ second) ≡ before - length first = omega arith in
-      let same : its_line bank size plan (first ++ second) sent ≡ line = ap (λ (n : ℕ). line_at n (called bank plan sent)) place in
-      let k = length-append line more.text in
-      goes_on bank size room plan (first ++ second) (omega arith) enough sent (rest ++ second) (record_stays first second sent rest e)
-      ∙ ap (λ (t : List ℕ). after_text t (played bank size (room - length t) (after_call bank plan sent) (rest ++ second))) same
-      ∙ ap (after_text line) (h ended)
-      ∙ after_more line more.text (played bank size ((room - length line) - length more.text) more.plan second)
-      ∙ ap (λ (n : ℕ). after_text (line ++ more.text) (played bank size n more.plan second)) (omega arith)
+      let same : its_line bank size plan (first ++ second) sent ≡ entry_line entry =
+      ap (λ (n : ℕ). line_at n (called bank plan sent)) place ∙ ap entry_line (sym run.4) in
+      let k = length-append (entry_line entry) (lines entries) in
+      goes_on bank size room plan (first ++ second) (omega arith) run.2 sent (rest ++ second) (record_stays first second sent rest run.3)
+      ∙ ap (λ (t : List ℕ). after_line t (played bank size (room - length t) (after_call bank plan sent) (rest ++ second))) same
+      ∙ ap (after_line (entry_line entry)) (turn (room - length (entry_line entry)) (after_call bank plan sent) after rest entries run.5)
+      ∙ after_more (entry_line entry) (lines entries) (played bank size ((room - length (entry_line entry)) - length (lines entries)) after second)
+      ∙ ap (λ (n : ℕ). after_line (entry_line entry ++ lines entries) (played bank size n after second)) (omega arith)
 
 pub in_turn : InTurn
-in_turn bank size room plan first second one is ended =
-    subst (λ (o : Outcome). o.ending ≡ input_ended → played bank size room plan (first ++ second) ≡ then_played bank size room o second) (sym is)
-    (every_play bank (size - length second) (P bank size second) (at_end bank size second) (λ room plan first some none. unlike report_full refl)
-    (λ room plan first fault some enough e. unlike (unreadable ((size - length second) - length first) fault) refl) (on bank size second) room plan first) ended
+in_turn bank size room plan after first second entries run = turn bank size second room plan after first entries run

@@ -1,19 +1,23 @@
 -- What a reader of reports may rely on: laws above the definition of a play, for files that are not too long and memory
 -- enough.
-use Rattle.std.specs.Prelude.{◌≡◌, ℕ, ◌+◌, ◌-◌, ◌*◌, ◌<◌, ◌≤◌, Bool, true, cond, List, [], ◌∷◌, ◌++◌, length, take, drop, Ok, Err, Result, ◌≢◌, slice_index}
+use Rattle.std.specs.Prelude.{◌≡◌, ℕ, ◌+◌, ◌-◌, ◌*◌, ◌%◌, ◌<◌, ◌≤◌, Bool, true, cond, List, [], ◌∷◌, ◌++◌, length, take, drop, Ok, Err, Result, ◌≢◌, slice_index}
 use Rattle.std.specs.Str.Parse.{digits_value}
 use Rattle.std.specs.List.{AllByRecursion}
 use Rattle.theory.specs.Banks.{Bank}
 use Rattle.theory.specs.Lists.{every}
 use Rattle.theory.specs.Calls.{Plan, Refused, number, new_plan, between}
 use Rattle.theory.specs.Verdicts.{broken, smaller, stable}
-use Rattle.fields.specs.declared.fault.ReaderFault.{ReaderFault}
-use Rattle.fields.specs.Faults.{reader_number}
-use Rattle.fields.specs.Fields.{got, failed}
-use Rattle.fields.specs.Marks.{marked}
+use Rattle.records.specs.declared.fault.ReaderFault.{ReaderFault}
+use Rattle.records.specs.Faults.{reader_number}
+use Rattle.records.specs.Fields.{got, failed}
+use Rattle.records.specs.Records.{marked}
 use Rattle.records.specs.Records.{Sent, read_record}
-use Rattle.files.specs.Lines.{Said, atom, entered, done, judged, one_digit, two_digits, eight_hex}
-use Rattle.files.specs.Plays.{called, after_call, Ending, input_ended, input_too_long, report_full, unreadable, Outcome, after_text, line_at, unread_line, played}
+use Rattle.files.specs.Lines.{Said, atom, entered, judged, two_digits, eight_hex}
+use Rattle.files.specs.Plays.{called, after_call, Ending, input_ended, input_too_long, report_full, unreadable, Outcome, after_line, line_at, unread_line, play_from}
+
+-- the play of these bytes, the last of a file of this size, with this much room: there are no more records than bytes
+abbrev pub played : Bank → ℕ → ℕ → Plan → List ℕ → Outcome
+played bank size room plan bytes = play_from bank size (length bytes) room plan bytes
 
 -- ---- a report is a line for each record, in turn
 -- a record that was answered: the offset of its mark, and what its call answered
@@ -48,9 +52,10 @@ Ends (unreadable at fault) size room left last =
 
 pub record Reported (bank : Bank) (size room : ℕ) (plan : Plan) (bytes : List ℕ) (play : Outcome) : Type 0 where
   pub entries : List Entry
+  pub after : Plan
   pub left : List ℕ
   pub last : List ℕ
-  pub run : Run bank size room plan bytes entries play.plan left
+  pub run : Run bank size room plan bytes entries after left
   pub text : play.text ≡ lines entries ++ last
   pub ends : Ends play.ending size (room - length (lines entries)) left last
 
@@ -72,6 +77,9 @@ LinesAreText =
     ((offset : ℕ) (answer : Result Said Refused) → ALine (line_at offset answer)) × ((offset : ℕ) (fault : ReaderFault) → ALine (unread_line offset fault))
 
 -- ---- the digits of a line, read as a number of base 10 or 16, give the number
+abbrev pub one_digit : ℕ → List ℕ
+one_digit n = (48 + n % 10) ∷ []
+
 abbrev pub DigitsReadBack : Type 0
 DigitsReadBack =
     ((n : ℕ) → n < 10 → digits_value 10 (one_digit n) ≡ n)
@@ -83,7 +91,6 @@ DigitsReadBack =
 abbrev pub Fits : Result Said Refused → Type 0
 Fits (Ok (atom n)) = n < 100
 Fits (Ok (entered place)) = place < 100
-Fits (Ok done) = Unit {0}
 Fits (Ok (judged (broken place))) = place < 100
 Fits (Ok (judged (smaller set))) = set < 4294967296
 Fits (Ok (judged stable)) = Unit {0}
@@ -107,7 +114,7 @@ NumbersFit =
 -- what a line says: a word and its numbers
 pub data Heard : Type 0 where
   heard_atom heard_rule heard_broken heard_smaller : ℕ → Heard
-  heard_done heard_stable heard_nothing : Heard
+  heard_stable heard_nothing : Heard
   heard_no : ℕ → ℕ → ℕ → ℕ → Heard
 
 -- this many bytes of the line, from this one on
@@ -117,16 +124,15 @@ field at size line = take size (drop at line)
 abbrev pub hear_no : List ℕ → Heard
 hear_no line = heard_no (digits_value 10 (field 3 2 line)) (digits_value 16 (field 6 8 line)) (digits_value 10 (field 15 1 line)) (digits_value 10 (field 17 2 line))
 
--- by the first two bytes: AT, RU, DO, ST, BR, SM or NO
+-- by the first two bytes: AT, RU, ST, BR, SM or NO
 abbrev pub hear_by : ℕ → ℕ → List ℕ → Heard
 hear_by a b line =
     cond (marked a b 65 84) (heard_atom (digits_value 10 (field 5 2 line)))
     (cond (marked a b 82 85) (heard_rule (digits_value 10 (field 5 2 line)))
-    (cond (marked a b 68 79) heard_done
     (cond (marked a b 83 84) heard_stable
     (cond (marked a b 66 82) (heard_broken (digits_value 10 (field 7 2 line)))
     (cond (marked a b 83 77) (heard_smaller (digits_value 16 (field 8 8 line)))
-    (cond (marked a b 78 79) (hear_no line) heard_nothing))))))
+    (cond (marked a b 78 79) (hear_no line) heard_nothing)))))
 
 abbrev pub hear : List ℕ → Heard
 hear line = hear_by (slice_index line 0) (slice_index line 1) line
@@ -135,7 +141,6 @@ hear line = hear_by (slice_index line 0) (slice_index line 1) line
 abbrev pub said_of : ℕ → Result Said Refused → Heard
 said_of offset (Ok (atom n)) = heard_atom n
 said_of offset (Ok (entered place)) = heard_rule place
-said_of offset (Ok done) = heard_done
 said_of offset (Ok (judged (broken place))) = heard_broken place
 said_of offset (Ok (judged (smaller set))) = heard_smaller set
 said_of offset (Ok (judged stable)) = heard_stable
@@ -150,15 +155,12 @@ LinesTell =
 abbrev pub RefusalsLeaveThePlan : Type 0
 RefusalsLeaveThePlan = (bank : Bank) (plan : Plan) (sent : Sent) (refused : Refused) → called bank plan sent ≡ Err refused → after_call bank plan sent ≡ plan
 
--- ---- two files' bytes, one after the other: where the first is played to its end, the second is played on the plan that it
--- left, in the room that it left; its offsets are those in the whole
-abbrev pub then_played : Bank → ℕ → ℕ → Outcome → List ℕ → Outcome
-then_played bank size room one second = after_text one.text (played bank size (room - length one.text) one.plan second)
-
+-- ---- two files' bytes, one after the other: where every record of the first is answered, the second is played on the plan that
+-- they left, in the room that they left; its offsets are those in the whole
 abbrev pub InTurn : Type 0
-InTurn = (bank : Bank) (size room : ℕ) (plan : Plan) (first second : List ℕ) (one : Outcome)
-    → one ≡ played bank (size - length second) room plan first → one.ending ≡ input_ended
-    → played bank size room plan (first ++ second) ≡ then_played bank size room one second
+InTurn = (bank : Bank) (size room : ℕ) (plan after : Plan) (first second : List ℕ) (entries : List Entry)
+    → Run bank (size - length second) room plan first entries after []
+    → played bank size room plan (first ++ second) ≡ after_line (lines entries) (played bank size (room - length (lines entries)) after second)
 
 -- ---- a report with less room holds the front of one with more, and where it was not full they are the same
 abbrev pub FrontsTheLonger : Type 0

@@ -9,8 +9,8 @@ ghost use Rattle.std.specs.Prelude.{length};
 use host::PlayAnswer;
 use std::alloc::Global;
 
-/// Plays the file: the report gets a line for each record, and keeps every byte past them; for want of memory it is left
-/// as it was. The other clauses are laws of every play, for who reads reports.
+/// Plays the file: the report gets a line for each record, and keeps every byte past them. The other clauses are laws of
+/// every play, for who reads reports.
 #[unsafe(no_mangle)]
 pub extern "C" fn linenscribe_play(heap: Global, file: &[u8], report: &mut [u8]) -> PlayAnswer
     ensures answer { Answers result report.old report.new (playing file.now (length report.old)) }

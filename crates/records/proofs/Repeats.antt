@@ -2,10 +2,10 @@
 use Rattle.std.proofs.Common.{◌≡◌, ℕ, suc, ◌+◌, ◌-◌, ◌<◌, ◌≤◌, List, [], ◌∷◌, ◌++◌, IsErrAnd, Result, sym, refl, ap, ◌∙◌, subst, arith}
 use Rattle.std.proofs.lemmas.List.{append-nil, append_assoc}
 use Rattle.std.proofs.lemmas.Result.{err_from_is_err_and}
-use Rattle.fields.specs.Fields.{Read, got, failed, and_then}
+use Rattle.records.specs.Fields.{Read, got, failed, and_then}
 use Rattle.records.specs.Records.{Reads, repeated}
-use Rattle.fields.specs.declared.fault.ReaderFault.{ReaderFault}
-use Rattle.fields.specs.declared.fault.ReaderFault.TheVariants.{NoMemory}
+use Rattle.records.specs.declared.fault.ReaderFault.{ReaderFault}
+use Rattle.records.specs.declared.fault.ReaderFault.TheVariants.{NoMemory}
 
 module _ {A : Type 0} (one : List ℕ → Read A) where
   -- the parts that were read, and then n more

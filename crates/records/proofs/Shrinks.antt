@@ -2,14 +2,13 @@
 use Rattle.std.proofs.Common.{ℕ, zero, suc, ◌+◌, ◌-◌, ◌≤◌, Bool, true, false, cond, ltb, List, length, take, drop, Ok, Err, Result, arith}
 use Rattle.std.proofs.lemmas.List.{length-drop}
 use Rattle.std.proofs.lemmas.Bool.{cond_both, ltb-false}
-use Rattle.fields.specs.declared.fault.ReaderFault.{ReaderFault}
-use Rattle.fields.specs.declared.fault.ReaderFault.TheVariants.{Short, UnknownMark}
-use Rattle.fields.specs.declared.mark.Mark.{Mark}
-use Rattle.fields.specs.declared.mark.Mark.TheVariants.{Name as NA, Rule as RU, Tally as TA, Element as EL, Withdraw as WD, Reweigh as RW, Judge as JU}
-use Rattle.fields.specs.Fields.{Read, got, failed, and_then, read_in, read_slice, read_byte, read_word, read_signed}
-use Rattle.fields.specs.Letters.{letter_answer}
-use Rattle.fields.specs.Marks.{read_mark, is_tally, is_element, expect}
-use Rattle.records.specs.Records.{repeated, read_element, read_elements, read_tally, read_tallies, read_rule, read_name, read_withdraw, read_reweigh, read_judge, read_marked, read_record}
+use Rattle.records.specs.declared.fault.ReaderFault.{ReaderFault}
+use Rattle.records.specs.declared.fault.ReaderFault.TheVariants.{Short, UnknownMark}
+use Rattle.records.specs.declared.record.Mark.{Mark}
+use Rattle.records.specs.declared.record.Mark.TheVariants.{Name as NA, Rule as RU, Tally as TA, Element as EL, Judge as JU}
+use Rattle.records.specs.Fields.{Read, got, failed, and_then, read_in, read_slice, read_byte, read_word, read_signed}
+use Rattle.records.specs.Letters.{letter_answer}
+use Rattle.records.specs.Records.{read_mark, is_tally, is_element, expect, repeated, read_element, read_elements, read_tally, read_tallies, read_rule, read_name, read_judge, read_marked, read_record}
 
 -- at most n bytes are left
 abbrev Leaves : {A : Type 0} → ℕ → Read A → Type 0
@@ -107,16 +106,6 @@ rule_forward bytes =
 name_forward : Forward read_name
 name_forward bytes = leaves_then _ (read_byte bytes) _ (byte_forward bytes) λ size. slice_forward size
 
-withdraw_forward : Forward read_withdraw
-withdraw_forward bytes = leaves_then _ (read_byte bytes) _ (byte_forward bytes) λ place rest. omega arith
-
-reweigh_forward : Forward read_reweigh
-reweigh_forward bytes =
-    leaves_then _ (read_byte bytes) _ (byte_forward bytes) λ rule rest.
-    leaves_then _ (read_byte rest) _ (byte_forward rest) λ tally rest.
-    leaves_then _ (read_byte rest) _ (byte_forward rest) λ element rest.
-    leaves_then _ (read_signed rest) _ (signed_forward rest) λ weight rest. omega arith
-
 judge_forward : Forward read_judge
 judge_forward bytes =
     leaves_then _ (read_byte bytes) _ (byte_forward bytes) λ letter rest.
@@ -128,8 +117,6 @@ marked_forward NA bytes = leaves_then _ (read_name bytes) _ (name_forward bytes)
 marked_forward RU bytes = leaves_then _ (read_rule bytes) _ (rule_forward bytes) λ rule rest. omega arith
 marked_forward TA bytes = tt
 marked_forward EL bytes = tt
-marked_forward WD bytes = withdraw_forward bytes
-marked_forward RW bytes = reweigh_forward bytes
 marked_forward JU bytes = judge_forward bytes
 
 -- what is read takes two bytes at least

@@ -1,1 +1,4 @@
+pub mod Faults
+pub mod Letters
+pub mod Fields
 pub mod Records

@@ -1,23 +1,55 @@
 -- The records of a file: what the bytes that are left read as.
-use Rattle.std.specs.Prelude.{◌≡◌, ℕ, zero, suc, cond, List, [], ◌∷◌, ℤ, Ok, Err, Result, ◌≢◌, nat_lt}
+use Rattle.std.specs.Prelude.{◌≡◌, ℕ, zero, suc, Bool, true, false, cond, ◌&&◌, List, [], ◌∷◌, Ok, Err, Result, ◌==◌, ◌≢◌, nat_lt, slice_index}
 use Rattle.theory.specs.Rules.{Element, Tally, Rule}
 use Rattle.theory.specs.Calls.{relation_coded, sign_coded}
 use Rattle.rules.specs.Views.{rule_of}
-use Rattle.fields.specs.declared.fault.ReaderFault.{ReaderFault}
-use Rattle.fields.specs.declared.fault.ReaderFault.TheVariants.{UnknownMark, TooManyTallies, TooManyElements, NoMemory}
-use Rattle.fields.specs.declared.letter.ReadingName.{ReadingName}
-use Rattle.fields.specs.declared.mark.Mark.{Mark}
-use Rattle.fields.specs.declared.mark.Mark.TheVariants.{Name as NA, Rule as RU, Tally as TA, Element as EL, Withdraw as WD, Reweigh as RW, Judge as JU}
-use Rattle.fields.specs.Fields.{Read, got, failed, and_then, read_in, read_slice, read_byte, read_word, read_signed}
-use Rattle.fields.specs.Letters.{letter_answer}
-use Rattle.fields.specs.Marks.{read_mark, is_tally, is_element, expect}
+use Rattle.records.specs.declared.fault.ReaderFault.{ReaderFault}
+use Rattle.records.specs.declared.fault.ReaderFault.TheVariants.{UnknownMark, TooManyTallies, TooManyElements, NoMemory}
+use Rattle.records.specs.declared.letter.ReadingName.{ReadingName}
+use Rattle.records.specs.declared.record.Mark.{Mark}
+use Rattle.records.specs.declared.record.Mark.TheVariants.{Name as NA, Rule as RU, Tally as TA, Element as EL, Judge as JU}
 use Rattle.records.specs.declared.record.Record.{Record}
-use Rattle.records.specs.declared.record.Record.TheVariants.{Name, Rule as WholeRule, Withdraw, Reweigh, Judge}
+use Rattle.records.specs.declared.record.Record.TheVariants.{Name, Rule as WholeRule, Judge}
+use Rattle.records.specs.Fields.{Read, got, failed, and_then, read_in, read_slice, read_byte, read_word, read_signed}
+use Rattle.records.specs.Letters.{letter_answer}
 
 -- what was answered, unless memory was wanting
 abbrev pub Reads : {X A : Type 0} → (X → A) → Result X ReaderFault → List ℕ → Read A → Type 0
 Reads view (Ok value) rest should = got (view value) rest ≡ should
 Reads view (Err fault) rest should = (fault ≢ NoMemory) → failed fault ≡ should
+
+-- ---- marks: two ASCII bytes
+abbrev pub marked : ℕ → ℕ → ℕ → ℕ → Bool
+marked a b first second = a == first && b == second
+
+abbrev pub mark_of : ℕ → ℕ → Result Mark ReaderFault
+mark_of a b =
+    cond (marked a b 78 65) (Ok NA)
+    (cond (marked a b 82 85) (Ok RU)
+    (cond (marked a b 84 65) (Ok TA)
+    (cond (marked a b 69 76) (Ok EL)
+    (cond (marked a b 74 85) (Ok JU) (Err UnknownMark)))))
+
+abbrev pub read_mark : List ℕ → Read Mark
+read_mark bytes = and_then (read_slice 2 bytes) λ field rest. read_in (λ m. m) (mark_of (slice_index field 0) (slice_index field 1)) rest
+
+-- a part of a rule begins with its own mark
+abbrev pub is_tally : Mark → Bool
+is_tally NA = false
+is_tally RU = false
+is_tally TA = true
+is_tally EL = false
+is_tally JU = false
+
+abbrev pub is_element : Mark → Bool
+is_element NA = false
+is_element RU = false
+is_element TA = false
+is_element EL = true
+is_element JU = false
+
+abbrev pub expect : (Mark → Bool) → List ℕ → Read (Unit {0})
+expect wanted bytes = and_then (read_mark bytes) λ m rest. cond (wanted m) (got tt rest) (failed UnknownMark)
 
 -- ---- rules
 -- this many, one after the other
@@ -65,30 +97,15 @@ read_rule bytes =
 pub data Sent : Type 0 where
   name_sent : List ℕ → Sent
   rule_sent : Rule → Sent
-  withdraw_sent : ℕ → Sent
-  reweigh_sent : ℕ → ℕ → ℕ → ℤ → Sent
   judge_sent : ReadingName → ℕ → Sent
 
 abbrev pub record_of : Record → Sent
 record_of (Name bytes) = name_sent bytes.now
 record_of (WholeRule rule) = rule_sent (rule_of rule)
-record_of (Withdraw place) = withdraw_sent place
-record_of (Reweigh rule tally element weight) = reweigh_sent rule tally element weight
 record_of (Judge reading candidate) = judge_sent reading candidate.0
 
 abbrev pub read_name : List ℕ → Read (List ℕ)
 read_name bytes = and_then (read_byte bytes) λ size rest. read_slice size rest
-
-abbrev pub read_withdraw : List ℕ → Read Sent
-read_withdraw bytes = and_then (read_byte bytes) λ place rest. got (withdraw_sent place) rest
-
-abbrev pub read_reweigh : List ℕ → Read Sent
-read_reweigh bytes =
-    and_then (read_byte bytes) λ rule rest.
-    and_then (read_byte rest) λ tally rest.
-    and_then (read_byte rest) λ element rest.
-    and_then (read_signed rest) λ weight rest.
-    got (reweigh_sent rule tally element weight) rest
 
 abbrev pub read_judge : List ℕ → Read Sent
 read_judge bytes =
@@ -103,8 +120,6 @@ read_marked NA bytes = and_then (read_name bytes) λ name rest. got (name_sent n
 read_marked RU bytes = and_then (read_rule bytes) λ rule rest. got (rule_sent rule) rest
 read_marked TA bytes = failed UnknownMark
 read_marked EL bytes = failed UnknownMark
-read_marked WD bytes = read_withdraw bytes
-read_marked RW bytes = read_reweigh bytes
 read_marked JU bytes = read_judge bytes
 
 abbrev pub read_record : List ℕ → Read Sent

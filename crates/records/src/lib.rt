@@ -1,5 +1,7 @@
 // The records of a file, read whole.
 #![tactic(auto)]
 
+pub mod fault;
+pub mod letter;
+pub mod reader;
 pub mod record;
-pub mod rule;

@@ -28,9 +28,8 @@ play_record-requires g c =
 pub loop-reader-smaller : goal.loop-reader-smaller
 loop-reader-smaller g c =
     let p = c.in_ok-play_record.ensures.played in
-    let less = subst (Shorter (length c.loop-reader.reader.rest.now)) (sym p.1.stepped)
-    (step_shorter (g.B.Bank.meaning c.loop-reader.plan.bank) (plan_of c.loop-reader.plan) c.loop-reader.reader.rest.now) in
-    omega arith
+    subst (Shorter (length c.loop-reader.reader.rest.now)) (sym p.1.stepped)
+    (step_shorter (g.B.Bank.meaning c.loop-reader.plan.bank) (plan_of c.loop-reader.plan) c.loop-reader.reader.rest.now)
 
 pub loop-reader-preserved : goal.loop-reader-preserved
 loop-reader-preserved g c =

@@ -1,18 +1,16 @@
 // A reader over the bytes of a file, and the fields of its records.
 ghost use Rattle.std.specs.Prelude.{◌≡◌, ◌<◌, length};
-ghost use Rattle.fields.specs.Fields.{read_byte, read_signed, read_slice, read_word, read_in};
+ghost use Rattle.records.specs.Fields.{read_byte, read_signed, read_slice, read_word, read_in};
 
 use crate::fault::ReaderFault;
-use sets::AtomSet;
 
-/// The bytes that are left. After a fault nothing is promised of them: a play ends there.
+/// The bytes that are left.
 #[derive(Drop)]
 pub struct Reader<'a> {
     rest: &'a [u8],
 }
 
 impl<'a> Reader<'a> {
-    /// A reader at the front of a file.
     pub fn new(file: &'a [u8]) -> Reader<'a>
         ensures { result.rest.now ≡ file.now }
     {
@@ -39,7 +37,6 @@ impl<'a> Reader<'a> {
         Ok(field)
     }
 
-    /// A number of one byte.
     pub fn byte(&mut self) -> Result<u8, ReaderFault>
         ensures { read_in (λ b. b) result self.new.rest.now ≡ read_byte self.old.rest.now }
     {
@@ -53,14 +50,6 @@ impl<'a> Reader<'a> {
     {
         let field = self.slice(4)?;
         Ok(u32::from_be_bytes([field[0], field[1], field[2], field[3]]))
-    }
-
-    /// The same as a set of atoms.
-    pub fn set(&mut self) -> Result<AtomSet, ReaderFault>
-        ensures { read_in (λ s. s.0) result self.new.rest.now ≡ read_word self.old.rest.now }
-    {
-        let bits = self.word()?;
-        Ok(AtomSet(bits))
     }
 
     /// The same in two's complement.

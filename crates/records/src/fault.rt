@@ -1,6 +1,6 @@
 // Why a record cannot be read.
-ghost use Rattle.fields.specs.Faults.{reader_number};
-ghost use Rattle.fields.specs.declared.fault.ReaderFault.TheVariants.{NoMemory};
+ghost use Rattle.records.specs.Faults.{reader_number};
+ghost use Rattle.records.specs.declared.fault.ReaderFault.TheVariants.{NoMemory};
 ghost use Rattle.std.specs.Prelude.{◌≡◌};
 
 use std::alloc::AllocError;
@@ -23,7 +23,7 @@ pub enum ReaderFault {
 }
 
 impl ReaderFault {
-    /// The fault's number.
+    /// The fault's number in reports.
     pub fn number(self) -> u8
         ensures { result ≡ reader_number self }
     {

@@ -1,5 +1,5 @@
 // The letter of a reading.
-ghost use Rattle.fields.specs.Letters.{letter_answer};
+ghost use Rattle.records.specs.Letters.{letter_answer};
 ghost use Rattle.std.specs.Prelude.{◌≡◌};
 
 use crate::fault::ReaderFault;

@@ -1,7 +1,7 @@
 -- The number of each fault of the reader.
 use Rattle.std.specs.Prelude.{ℕ}
-use Rattle.fields.specs.declared.fault.ReaderFault.{ReaderFault}
-use Rattle.fields.specs.declared.fault.ReaderFault.TheVariants.{Short, UnknownMark, UnknownLetter, TooManyTallies, TooManyElements, NoMemory}
+use Rattle.records.specs.declared.fault.ReaderFault.{ReaderFault}
+use Rattle.records.specs.declared.fault.ReaderFault.TheVariants.{Short, UnknownMark, UnknownLetter, TooManyTallies, TooManyElements, NoMemory}
 
 abbrev pub reader_number : ReaderFault → ℕ
 reader_number Short = 1

@@ -1,7 +1,7 @@
 -- The fields of a file, read from the bytes that are left.
 use Rattle.std.specs.Prelude.{ℕ, ◌+◌, ◌*◌, cond, List, length, take, drop, ℤ, pos, ◌-ℤ◌, Ok, Err, Result, nat_lt, slice_index}
-use Rattle.fields.specs.declared.fault.ReaderFault.{ReaderFault}
-use Rattle.fields.specs.declared.fault.ReaderFault.TheVariants.{Short}
+use Rattle.records.specs.declared.fault.ReaderFault.{ReaderFault}
+use Rattle.records.specs.declared.fault.ReaderFault.TheVariants.{Short}
 
 -- what was read and the bytes that are left then, or the fault
 pub data Read (A : Type 0) : Type 0 where

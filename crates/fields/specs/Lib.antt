@@ -1,4 +1,0 @@
-pub mod Faults
-pub mod Letters
-pub mod Fields
-pub mod Marks
