@@ -42,7 +42,8 @@ fn numbers(played: Played) -> PlayAnswer
     }
 }
 
-/// Plays the file: the report gets a line for each record, and keeps every byte past them. The other clauses are laws of every play, for who reads reports.
+/// Plays the file: the report gets a line for each record, and keeps every byte past them. The other clauses are laws of
+/// every play, for who reads reports.
 pub fn linenscribe_play(heap: Global, file: &[u8], report: &mut [u8]) -> PlayAnswer
     ensures answer { Answers result report.old report.new (playing file.now (length report.old)) }
     ensures line_by_line { LineByLine }
