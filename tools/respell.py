@@ -9,20 +9,16 @@ elsewhere are turned. src/ is turned in its clauses and ghost imports alone.
 """
 import collections
 import glob
-import os
 import re
 import sys
 
 KIT = "/opt/rattle/rattle"
 NAME = r"[A-Za-z][A-Za-z0-9_'ℕℤ₂]*(?:-[A-Za-z0-9_'ℕℤ₂]+)*"
 TOKEN = re.compile(r"(?<![A-Za-z0-9_'\-ℕℤ₂])" + NAME + r"(?![A-Za-z0-9_'\-ℕℤ₂])")
-DASHED = re.compile(r".*-")
 CAMEL = re.compile(r"^[a-z]+[A-Z][A-Za-z]*$")
 
 # names of ours that the kit has too, elsewhere
 OURS = {"at-end", "loop-turn", "next-is", "repeat-none", "within-from"}
-# names of the check's, or of Rust, that stand in files of ours too
-KEPT = set()
 # where the rule would give a name that is taken, or one that reads badly
 GIVEN = {
     "at_least_lem": "at_least",
@@ -43,7 +39,7 @@ def new_name(old):
 
 
 def antt_parts(text):
-    """The text in pieces: (is_code, piece)."""
+    """The text in parts, each with whether it is code."""
     out = []
     for line in text.splitlines(keepends=True):
         m = re.search(r"(^|\s)--", line)
@@ -92,26 +88,17 @@ def kit_names():
     return names
 
 
-def rust_names():
-    names = set()
-    for p in files("rt"):
-        with open(p) as f:
-            for t in re.findall(r"\b[A-Za-z_][A-Za-z0-9_]*\b", f.read()):
-                names.add(t)
-    return names
-
-
 def main():
     kit = kit_names()
     turned = {}
     seen = collections.Counter()
     for p in files("own"):
-        for code, piece in antt_parts(open(p).read()):
+        for code, part in antt_parts(open(p).read()):
             if code:
-                for t in TOKEN.findall(piece):
+                for t in TOKEN.findall(part):
                     seen[t] += 1
     for t in seen:
-        if t in GIVEN or t in OURS or ((("-" in t) or CAMEL.match(t)) and t not in kit and t not in KEPT):
+        if t in GIVEN or t in OURS or ((("-" in t) or CAMEL.match(t)) and t not in kit):
             turned[t] = new_name(t)
     by_new = collections.defaultdict(set)
     for old, new in turned.items():
@@ -127,7 +114,7 @@ def main():
         for p in files(kind):
             text = open(p).read()
             made = "".join(
-                TOKEN.sub(lambda m: turned.get(m.group(0), m.group(0)), piece) if code else piece for code, piece in parts(text)
+                TOKEN.sub(lambda m: turned.get(m.group(0), m.group(0)), part) if code else part for code, part in parts(text)
             )
             if made != text:
                 open(p, "w").write(made)

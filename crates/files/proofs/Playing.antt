@@ -1,14 +1,14 @@
 -- A play, record by record.
-use Rattle.std.proofs.Common.{◌≡◌, ℕ, zero, suc, ◌+◌, ◌-◌, ◌<◌, ◌≤◌, cond, ltb, List, [], ◌++◌, length, drop, Result, sym, refl, ap, ◌∙◌, subst, ap₂, inl, inr, arith}
+use Rattle.std.proofs.Common.{◌≡◌, ℕ, zero, suc, ◌+◌, ◌-◌, ◌<◌, ◌≤◌, cond, eqb, ltb, List, [], ◌++◌, length, drop, Result, sym, refl, ap, ◌∙◌, subst, ap₂, inl, inr, arith}
 use Rattle.std.proofs.lemmas.List.{append_assoc, length-append, take_at, drop_at, drop-drop}
-use Rattle.std.proofs.lemmas.Bool.{cond-true, cond-false, cases_lt, eq-eqb, ne_eqb, lt-ltb, le-ltb}
+use Rattle.std.proofs.lemmas.Bool.{cond-true, cond-false, cond_both, cases_lt, eq-eqb, ne_eqb, lt-ltb, le-ltb}
 use Rattle.theory.specs.Banks.{Bank}
 use Rattle.theory.specs.Calls.{Plan, Refused}
 use Rattle.records.specs.declared.fault.ReaderFault.{ReaderFault}
 use Rattle.records.specs.Fields.{Read, got, failed}
 use Rattle.files.specs.Lines.{Said, written}
 use Rattle.records.specs.Records.{Sent, read_record}
-use Rattle.files.specs.Plays.{Step, answered, unread, by_record, step, input_ended, report_full, unreadable, Outcome, ends, after_line, line_at, unread_line, play_from, over}
+use Rattle.files.specs.Plays.{Step, answered, unread, by_record, step, Ending, input_ended, input_too_long, report_full, unreadable, Outcome, ends, after_line, line_at, unread_line, play_from, over}
 use Rattle.records.proofs.Shrinks.{Fewer, record_fewer}
 
 -- a record leaves fewer bytes
@@ -23,6 +23,13 @@ step_shorter bank plan bytes = by (read_record bytes) (record_fewer bytes)
     by : (r : Read Sent) → Fewer (length bytes) r → Shorter (length bytes) (by_record bank plan r)
     by (got sent rest) h = omega arith
     by (failed fault) h = tt
+
+-- told apart from a file that is too long
+abbrev is_long : Ending → ℕ
+is_long input_ended = 0
+is_long input_too_long = 1
+is_long report_full = 0
+is_long (unreadable at fault) = 0
 
 module _ (bank : Bank) (size : ℕ) where
   -- what a step makes of the play, where n more records are allowed
@@ -42,6 +49,22 @@ module _ (bank : Bank) (size : ℕ) where
       → play_from bank size (suc n) room plan bytes ≡ cond (ltb room 20) (ends [] report_full) (onward n room bytes (step bank plan bytes))
   unfolding play_from
   play_more n room plan bytes some = cond-false _ _ _ (ne_eqb (length bytes) 0 (λ e. omega arith))
+
+  -- a play that was begun does not end because the file is too long
+  not_long : (n room : ℕ) (plan : Plan) (bytes : List ℕ) → is_long (play_from bank size n room plan bytes).ending ≡ 0
+  unfolding play_from
+  not_long zero room plan bytes = refl
+  not_long (suc n) room plan bytes =
+      cond_both (eqb (length bytes) 0) (ends [] input_ended) _ (λ o. is_long o.ending ≡ 0) (λ e. refl)
+      (λ e. cond_both (ltb room 20) (ends [] report_full) (onward n room bytes (step bank plan bytes)) (λ o. is_long o.ending ≡ 0) (λ e. refl)
+      (λ e. by (not_long n) (step bank plan bytes)))
+    where
+      by : ((r : ℕ) (p : Plan) (rest : List ℕ) → is_long (play_from bank size n r p rest).ending ≡ 0) → (s : Step) → is_long (onward n room bytes s).ending ≡ 0
+      by more (answered answer after rest) = more (room - length (line_at (size - length bytes) answer)) after rest
+      by more (unread fault) = refl
+
+  pub begun_short : (n room : ℕ) (plan : Plan) (bytes : List ℕ) → (play_from bank size n room plan bytes).ending ≡ input_too_long → ⊥
+  begun_short n room plan bytes e = let l = not_long n room plan bytes in let k = ap is_long e in omega arith
 
   -- it does not matter how many more records are allowed, if there are as many as bytes
   same : (n m room : ℕ) (bytes : List ℕ) → ((r : ℕ) (p : Plan) (rest : List ℕ) → length rest < length bytes → play_from bank size n r p rest ≡ play_from bank size m r p rest)

@@ -1,7 +1,7 @@
 -- The loop over the records of a file.
-use Rattle.std.proofs.Common.{◌≡◌, ℕ, ◌-◌, ◌<◌, ◌≤◌, List, [], ◌++◌, length, drop, IsErrAnd, Some, Ok, Err, Option, Result, sym, refl, ap, ◌∙◌, subst, arith, lit≤}
+use Rattle.std.proofs.Common.{◌≡◌, ℕ, ◌-◌, ◌<◌, ◌≤◌, List, [], ◌++◌, length, take, drop, IsErrAnd, Some, Ok, Err, Option, Result, sym, refl, ap, ◌∙◌, subst, ap₂, arith, lit≤}
 use Rattle.std.specs.Result.{result_err}
-use Rattle.std.proofs.lemmas.List.{length-append, length-drop, append-nil}
+use Rattle.std.proofs.lemmas.List.{length-append, length-drop, append-nil, take_at}
 use Rattle.std.proofs.lemmas.Result.{err_from_is_err_and}
 use Rattle.theory.specs.Banks.{Bank}
 use Rattle.theory.specs.Calls.{Plan, Refused}
@@ -9,7 +9,7 @@ use Rattle.theory.specs.Verdicts.{broken, smaller, stable}
 use Rattle.files.specs.declared.play.PlayFault.{PlayFault}
 use Rattle.files.specs.declared.play.PlayFault.TheVariants.{InputTooLong, ReportFull, NoMemory as OutOfMemory, Unreadable}
 use Rattle.files.specs.Lines.{Said, atom, entered, judged, written}
-use Rattle.files.specs.Plays.{Ending, input_ended, report_full, unreadable, Outcome, ends, after_line, line_at, unread_line, play_from, over, Exactly, Plays}
+use Rattle.files.specs.Plays.{Ending, input_ended, input_too_long, report_full, unreadable, Outcome, ends, after_line, line_at, unread_line, play_from, over, Exactly, Plays, IsFront}
 use Rattle.files.specs.Turns.{Lined, Unlined, GoesOn, RecordPlayed}
 use Rattle.files.proofs.Playing.{Shorter, step_shorter, play_done, play_full, play_on, play_stop, over_more, after_more}
 
@@ -117,6 +117,27 @@ module _ (bank : Bank) (size : ℕ) (before : List ℕ) (all : Outcome) where
         (ending (unread_line (size - length rest) f) (unreadable (size - length rest) f) after to
         (play_stop bank size (length before - count) plan rest some (omega (arith, h.0)) f s.stepped)
         (lined_over after _ to s.lined) (lined_bytes after _ to s.lined))
+
+    -- memory was wanting: nothing was written for this record
+    front : (all.ending ≡ input_too_long → ⊥) → (after : List ℕ) (to : ℕ) → Unlined report after count to → IsFront after to all
+    front short after to u =
+        let more = play_from bank size (length rest) (length before - count) plan rest in
+        let taken : take to after ≡ so.text =
+        ap₂ (λ (n : ℕ) (bytes : List ℕ). take n bytes) (u.end ∙ so.bytes) (u.report ∙ so.same) ∙ take_at so.text (drop (length so.text) before) (length so.text) refl in
+        record {
+          rest = more.text;
+          text = sym (ap (λ (o : Outcome). o.text) so.to_come) ∙ ap (λ (t : List ℕ). t ++ more.text) (sym taken);
+          short = short;
+        }
+
+    -- what a `?` passed on, if that is it
+    pub so_far_wanting : (all.ending ≡ input_too_long → ⊥) → (r : Result (Unit {0}) PlayFault) (e : PlayFault) → IsErrAnd r (λ x. x ≡ e) → (after : List ℕ) (to : ℕ) (plan' : Plan) (rest' : List ℕ)
+        → RecordPlayed (Err e) bank (size - length rest) plan plan' rest rest' report after count to → result_err r ≡ Some OutOfMemory → IsFront after to all
+    so_far_wanting short r e by after to plan' rest' h is =
+        let p = err_from_is_err_and r by in
+        let same : ◌≡◌ {A = Option PlayFault} (Some e) (Some OutOfMemory) = sym (ap result_err p.1 ∙ ap (λ (x : PlayFault). Some x) p.2) ∙ is in
+        let it : e ≡ OutOfMemory = cc in
+        front short after to (subst (λ (x : PlayFault). RecordPlayed (Err x) bank (size - length rest) plan plan' rest rest' report after count to) it h)
 
 -- what a `?` passed on
 pub ended_by : (r : Result (Unit {0}) PlayFault) (e : PlayFault) (before after : List ℕ) (count : ℕ) (all : Outcome) → IsErrAnd r (λ x. x ≡ e)

@@ -1,5 +1,5 @@
 -- Playing a file: the calls that its records make on a new plan, the lines of the report, and what ends it.
-use Rattle.std.specs.Prelude.{◌≡◌, ℕ, zero, suc, ◌-◌, cond, List, [], ◌++◌, length, drop, Some, None, Ok, Err, Option, Result, ◌==◌, nat_lt}
+use Rattle.std.specs.Prelude.{◌≡◌, ℕ, zero, suc, ◌-◌, cond, List, [], ◌++◌, length, take, drop, Some, None, Ok, Err, Option, Result, ◌==◌, ◌≢◌, nat_lt}
 use Rattle.theory.specs.Banks.{Bank, five_kinds}
 use Rattle.theory.specs.Readings.{Reading, flp, ferraris}
 use Rattle.theory.specs.Calls.{Plan, Refusal, Refused, number, new_plan, name_answer, after_name, enter_answer, after_enter, judge_answer}
@@ -123,3 +123,9 @@ Plays (Some InputTooLong) before after count should = Exactly input_too_long bef
 Plays (Some ReportFull) before after count should = Exactly report_full before after count should
 Plays (Some NoMemory) before after count should = Partly before after count
 Plays (Some (Unreadable offset fault)) before after count should = Exactly (unreadable offset fault) before after count should
+
+-- and then: the bytes that were written are the front of those that should be, and the file is not too long
+pub record IsFront (after : List ℕ) (count : ℕ) (should : Outcome) : Type 0 where
+  pub rest : List ℕ
+  pub text : should.text ≡ take count after ++ rest
+  pub short : should.ending ≢ input_too_long

@@ -1,5 +1,5 @@
 // Playing a file: its records are calls on a new plan, and each is answered by a line of the report.
-ghost use Rattle.files.specs.Plays.{Plays, after_call, called, ending_number, play_from, playing, reading_of, step};
+ghost use Rattle.files.specs.Plays.{IsFront, Plays, after_call, called, ending_number, play_from, playing, reading_of, step};
 ghost use Rattle.files.specs.Turns.{FaultPut, RecordPlayed, Steps, said_in};
 ghost use Rattle.records.specs.Records.{record_of};
 ghost use Rattle.files.specs.declared.play.PlayFault.TheVariants.{NoMemory as OutOfMemory};
@@ -161,7 +161,8 @@ fn play_records<B: Bank>(
 ) -> Result<(), PlayFault>
     requires small { length file.now ≤ 65536 }
     requires fresh { written.old ≡ 0 }
-    ensures { Plays (result_err result) report.old report.new written.new (play_from (B.meaning plan.old.bank) (length file.now) (length file.now) (length report.old) (plan_of plan.old) file.now) }
+    ensures plays { Plays (result_err result) report.old report.new written.new (play_from (B.meaning plan.old.bank) (length file.now) (length file.now) (length report.old) (plan_of plan.old) file.now) }
+    ensures wanting { result_err result ≡ Some PlayFault.NoMemory → IsFront report.new written.new (play_from (B.meaning plan.old.bank) (length file.now) (length file.now) (length report.old) (plan_of plan.old) file.now) }
 {
     let mut reader = Reader::new(file);
     while reader.left() > 0 {
@@ -173,7 +174,8 @@ fn play_records<B: Bank>(
 // The file's length is tested first.
 fn run(heap: Global, file: &[u8], report: &mut [u8], written: &mut usize) -> Result<(), PlayFault>
     requires { written.old ≡ 0 }
-    ensures { Plays (result_err result) report.old report.new written.new (playing file.now (length report.old)) }
+    ensures plays { Plays (result_err result) report.old report.new written.new (playing file.now (length report.old)) }
+    ensures wanting { result_err result ≡ Some PlayFault.NoMemory → IsFront report.new written.new (playing file.now (length report.old)) }
 {
     if file.len() > MAX_INPUT {
         return Err(PlayFault::InputTooLong);
@@ -184,7 +186,8 @@ fn run(heap: Global, file: &[u8], report: &mut [u8], written: &mut usize) -> Res
 
 /// Plays a file over the product's bank: the report gets a line for each record, and keeps every byte past them.
 pub fn play(heap: Global, file: &[u8], report: &mut [u8]) -> Played
-    ensures { Plays result.fault report.old report.new result.written (playing file.now (length report.old)) }
+    ensures plays { Plays result.fault report.old report.new result.written (playing file.now (length report.old)) }
+    ensures wanting { result.fault ≡ Some PlayFault.NoMemory → IsFront report.new result.written (playing file.now (length report.old)) }
 {
     let mut written = 0;
     let fault = run(heap, file, report, &mut written).err();

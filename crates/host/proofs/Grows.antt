@@ -8,8 +8,7 @@ use Rattle.records.specs.declared.record.Mark.{Mark}
 use Rattle.records.specs.declared.record.Mark.TheVariants.{Name, Rule, Tally, Element, Judge}
 use Rattle.records.specs.Fields.{Read, got, failed, and_then, read_in, read_slice, read_byte, read_word, read_signed}
 use Rattle.records.specs.Letters.{letter_answer}
-use Rattle.records.specs.Records.{read_mark, is_tally, is_element, expect}
-use Rattle.records.specs.Records.{Sent, repeated, read_element, read_elements, read_tally, read_tallies, read_rule, read_name, read_judge, read_marked, read_record}
+use Rattle.records.specs.Records.{read_mark, is_tally, is_element, expect, Sent, repeated, read_element, read_elements, read_tally, read_tallies, read_rule, read_name, read_judge, read_marked, read_record}
 
 -- a part that is read is read so with more bytes after it
 abbrev Same : {A : Type 0} → List ℕ → Read A → Read A → Type 0

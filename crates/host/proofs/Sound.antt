@@ -11,10 +11,9 @@ use Rattle.records.specs.declared.record.Mark.TheVariants.{Name, Rule, Tally, El
 use Rattle.records.specs.Faults.{reader_number}
 use Rattle.records.specs.Fields.{Read, got, failed, and_then, read_in, read_slice, read_byte, read_word, read_signed}
 use Rattle.records.specs.Letters.{letter_answer}
-use Rattle.records.specs.Records.{marked, mark_of, read_mark, is_tally, is_element, expect}
-use Rattle.records.specs.Records.{repeated, read_element, read_elements, read_tally, read_tallies, read_rule, read_name, read_marked, read_record}
-use Rattle.files.specs.Plays.{input_too_long, ends, playing}
-use Rattle.host.specs.Answers.{number_of_ending}
+use Rattle.records.specs.Records.{marked, mark_of, read_mark, is_tally, is_element, expect, repeated, read_element, read_elements, read_tally, read_tallies, read_rule, read_name, read_marked, read_record}
+use Rattle.files.specs.Plays.{input_too_long, ending_number, ends, playing}
+use Rattle.host.specs.Answers.{fault_of}
 use Rattle.host.specs.Laws.{played}
 use Rattle.host.proofs.Inducts.{every_play}
 
@@ -117,9 +116,9 @@ marked_sound Judge bytes =
 record_sound : (bytes : List ℕ) → Sound (read_record bytes)
 record_sound bytes = sound_then (read_mark bytes) read_marked (mark_sound bytes) marked_sound
 
-pub told_below : (file : List ℕ) (room : ℕ) → number_of_ending (playing file room).ending < 99
+pub told_below : (file : List ℕ) (room : ℕ) → ending_number (fault_of (playing file room).ending) < 99
 told_below file room =
-    cond_both (ltb 65536 (length file)) (ends [] input_too_long) (played five_kinds (length file) room new_plan file) (λ o. number_of_ending o.ending < 99)
+    cond_both (ltb 65536 (length file)) (ends [] input_too_long) (played five_kinds (length file) room new_plan file) (λ o. ending_number (fault_of o.ending) < 99)
     (λ e. lit≤ tt)
-    (λ e. every_play five_kinds (length file) (λ room plan bytes o. number_of_ending o.ending < 99) (λ room plan. lit≤ tt) (λ room plan bytes some none. lit≤ tt)
+    (λ e. every_play five_kinds (length file) (λ room plan bytes o. ending_number (fault_of o.ending) < 99) (λ room plan. lit≤ tt) (λ room plan bytes some none. lit≤ tt)
     (λ room plan bytes fault some enough e. subst Sound e (record_sound bytes)) (λ room plan bytes sent rest more enough e fewer h. h) room new_plan file)

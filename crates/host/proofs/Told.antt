@@ -1,37 +1,52 @@
 -- A play's answer, turned into numbers.
-use Rattle.std.proofs.Common.{◌≡◌, ℕ, ◌<◌, List, length, drop, Some, None, Option, ap, ◌∙◌, inl, inr, arith}
-use Rattle.std.proofs.lemmas.List.{length-append}
+use Rattle.std.proofs.Common.{◌≡◌, ℕ, ◌<◌, List, ◌++◌, length, take, drop, Some, None, Option, refl, ap, ◌∙◌, ap₂, inl, inr, arith}
+use Rattle.std.proofs.lemmas.List.{length-append, take_at}
 use Rattle.files.specs.declared.play.PlayFault.{PlayFault}
 use Rattle.files.specs.declared.play.PlayFault.TheVariants.{InputTooLong, ReportFull, NoMemory, Unreadable}
-use Rattle.files.specs.Plays.{Ending, input_ended, input_too_long, report_full, unreadable, ending_number, Outcome, Exactly, Plays}
+use Rattle.files.specs.Plays.{Ending, input_ended, input_too_long, report_full, unreadable, ending_number, Outcome, Exactly, Partly, Plays, IsFront}
 use Rattle.host.specs.declared.PlayAnswer.{PlayAnswer}
-use Rattle.host.specs.Answers.{number_of_ending, offset_of_ending, ending_offset, Wanting, Answers}
+use Rattle.host.specs.Answers.{ending_offset, fault_of, Wanting, Answers}
 
-module _ (answer : PlayAnswer) (before after : List ℕ) (count : ℕ) (should : Outcome) (written : answer.written ≡ count) (same : length after ≡ length before)
-    (below : number_of_ending should.ending < 99) where
+module _ (answer : PlayAnswer) (before after : List ℕ) (count : ℕ) (should : Outcome) (written : answer.written ≡ count)
+    (below : ending_number (fault_of should.ending) < 99) where
   -- exactly what it should be
-  told : (e : Ending) → Exactly e before after count should → answer.fault ≡ number_of_ending e → answer.offset ≡ offset_of_ending e → Answers answer before after should
-  told e x fault offset =
-      let f : answer.fault ≡ number_of_ending should.ending = fault ∙ ap number_of_ending x.ended in
+  told : (e : Ending) → Exactly e before after count should → answer.fault ≡ ending_number (fault_of e) → answer.offset ≡ ending_offset (fault_of e)
+      → length after ≡ length before → Answers answer before after should
+  told e x fault offset same =
+      let f : answer.fault ≡ ending_number (fault_of should.ending) = fault ∙ ap (λ (n : Ending). ending_number (fault_of n)) x.ended in
       let w : answer.written ≡ length should.text = written ∙ x.bytes in
       let l = ap length x.report ∙ length-append should.text (drop (length should.text) before) in
       record {
-        either = inl (record { report = x.report; written = w; fault = f; offset = offset ∙ ap offset_of_ending x.ended });
+        either = inl (record { report = x.report; written = w; fault = f; offset = offset ∙ ap (λ (n : Ending). ending_offset (fault_of n)) x.ended });
         by_fault = λ n. absurd (omega arith);
         within = omega arith;
       }
 
-  wanting : (x : Wanting answer before after) → Answers answer before after should
-  wanting x =
+  -- the text that was written is the front that is told of
+  wanting : Partly before after count → IsFront after count should → answer.fault ≡ 99 → answer.offset ≡ 0
+      → length after ≡ length before → Answers answer before after should
+  wanting x front fault offset same =
+      let taken : take count after ≡ x.text =
+      ap₂ (λ (n : ℕ) (bytes : List ℕ). take n bytes) x.bytes x.report ∙ take_at x.text (drop (length x.text) before) (length x.text) refl in
+      let w : answer.written ≡ length x.text = written ∙ x.bytes in
       let l = ap length x.report ∙ length-append x.text (drop (length x.text) before) in
-      let w = x.written in
-      record { either = inr x; by_fault = λ e. x; within = omega arith }
+      let it : Wanting answer before after should =
+      record {
+        text = x.text;
+        rest = front.rest;
+        front = front.text ∙ ap (λ (t : List ℕ). t ++ front.rest) taken;
+        report = x.report;
+        written = w;
+        fault = fault;
+        offset = offset;
+        short = front.short;
+      } in
+      record { either = inr it; by_fault = λ e. it; within = omega arith }
 
-  pub answers : (fault : Option PlayFault) → Plays fault before after count should → answer.fault ≡ ending_number fault → answer.offset ≡ ending_offset fault
-      → Answers answer before after should
-  answers None x number offset = told input_ended x number offset
-  answers (Some InputTooLong) x number offset = told input_too_long x number offset
-  answers (Some ReportFull) x number offset = told report_full x number offset
-  answers (Some NoMemory) x number offset =
-      wanting (record { text = x.text; report = x.report; written = written ∙ x.bytes; fault = number; offset = offset })
-  answers (Some (Unreadable at fault)) x number offset = told (unreadable at fault) x number offset
+  pub answers : (fault : Option PlayFault) → Plays fault before after count should → (fault ≡ Some NoMemory → IsFront after count should)
+      → answer.fault ≡ ending_number fault → answer.offset ≡ ending_offset fault → length after ≡ length before → Answers answer before after should
+  answers None x front number offset same = told input_ended x number offset same
+  answers (Some InputTooLong) x front number offset same = told input_too_long x number offset same
+  answers (Some ReportFull) x front number offset same = told report_full x number offset same
+  answers (Some NoMemory) x front number offset same = wanting x (front refl) number offset same
+  answers (Some (Unreadable at fault)) x front number offset same = told (unreadable at fault) x number offset same

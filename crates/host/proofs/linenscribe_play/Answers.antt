@@ -16,9 +16,9 @@ returns c =
     let n = c.numbers.ensures in
     record {
       answer =
-          answers c.numbers.result c.args.report.now c.play.new.report c.play.result.written _ n.written c.play.auto.report
+          answers c.numbers.result c.args.report.now c.play.new.report c.play.result.written _ n.written
           (told_below c.args.file.now (length c.args.report.now))
-          c.play.result.fault c.play.ensures n.fault n.offset;
+          c.play.result.fault c.play.ensures.plays c.play.ensures.wanting n.fault n.offset c.play.auto.report;
       line_by_line = line_by_line;
       lines_are_text = lines_are_text;
       digits_read_back = digits_read_back;
