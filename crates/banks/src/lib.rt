@@ -5,8 +5,6 @@ ghost use Rattle.theory.specs.Banks.{Bank as Meaning, Kind, LawfulBank, Light, N
 ghost use Rattle.std.specs.Prelude.{◌≡◌};
 ghost use Rattle.theory.proofs.BankLaws.{counting_lawful, summing_lawful, topping_lawful, paired_lawful, mirrored_lawful, gaining_lawful, five_kinds_lawful};
 
-mod mirrors;
-
 /// A bank tells how many kinds it has, the empty total of a kind, and the step from a total and a weight to the next
 /// total. Whatever implements it owes the laws; within its ranges a call refuses nothing and changes nothing.
 pub trait Bank {
@@ -33,7 +31,7 @@ pub trait Bank {
 }
 
 /// One kind: how many weights there are.
-#[derive(Clone, Copy)]
+#[derive(Clone, Copy, Debug)]
 pub struct Count;
 
 impl Bank for Count {
@@ -55,7 +53,7 @@ impl Bank for Count {
 }
 
 /// One kind: the sum of the weights.
-#[derive(Clone, Copy)]
+#[derive(Clone, Copy, Debug)]
 pub struct Sum;
 
 impl Bank for Sum {
@@ -77,7 +75,7 @@ impl Bank for Sum {
 }
 
 /// One kind: the greatest of the weights; of no weights it lies below every bound.
-#[derive(Clone, Copy)]
+#[derive(Clone, Copy, Debug)]
 pub struct Max;
 
 impl Bank for Max {
@@ -94,12 +92,12 @@ impl Bank for Max {
     }
 
     fn step(&self, _kind: u8, total: i32, weight: i32) -> i32 {
-        if total < weight { weight } else { total }
+        total.max(weight)
     }
 }
 
 /// The kinds of two banks, the second's numbered after the first's; the first 200 of them all.
-#[derive(Clone, Copy)]
+#[derive(Clone, Copy, Debug)]
 pub struct Pair<A, B> {
     pub first: A,
     pub second: B,
@@ -136,7 +134,7 @@ impl<A: Bank, B: Bank> Bank for Pair<A, B> {
 }
 
 /// A bank with the signs of its totals and weights changed.
-#[derive(Clone, Copy)]
+#[derive(Clone, Copy, Debug)]
 pub struct Mirror<B> {
     pub below: B,
 }
@@ -151,16 +149,16 @@ impl<B: Bank> Bank for Mirror<B> {
     }
 
     fn empty(&self, kind: u8) -> i32 {
-        mirrors::mirrored_empty(&self.below, kind)
+        -self.below.empty(kind)
     }
 
     fn step(&self, kind: u8, total: i32, weight: i32) -> i32 {
-        mirrors::mirrored_step(&self.below, kind, total, weight)
+        -self.below.step(kind, -total, -weight)
     }
 }
 
 /// A bank that steps only the weights above 0.
-#[derive(Clone, Copy)]
+#[derive(Clone, Copy, Debug)]
 pub struct Gains<B> {
     pub below: B,
 }
@@ -191,7 +189,7 @@ impl<B: Bank> Bank for Gains<B> {
 type FiveKinds = Pair<Pair<Pair<Pair<Count, Sum>, Max>, Mirror<Max>>, Gains<Sum>>;
 
 /// The product's bank: 1 count, 2 sum, 3 max, 4 min (max mirrored), 5 the sum of the weights above 0.
-#[derive(Clone, Copy)]
+#[derive(Clone, Copy, Debug)]
 pub struct Product {
     kinds: FiveKinds,
 }

@@ -2,11 +2,10 @@
 #![tactic(auto)]
 
 ghost use Rattle.theory.specs.Readings.{LawfulReading, Reading as Meaning, ferraris, flp};
-ghost use Rattle.theory.specs.Sets.{contains};
-ghost use Rattle.std.specs.Prelude.{true, ◌≡◌};
+ghost use Rattle.std.specs.Prelude.{◌≡◌};
 ghost use Rattle.theory.proofs.Lawful.{flp_lawful, ferraris_lawful};
 
-use sets::AtomSet;
+use sets::{AtomSet, Inside};
 
 /// A reading is asked two questions about a candidate and a subset of it (which may be the candidate itself).
 /// Whatever implements it owes the laws; a call refuses nothing and changes nothing.
@@ -15,9 +14,8 @@ pub trait Reading {
     ghost meaning: { Self → Meaning };
 
     /// Whether an element with this in set and this out set counts.
-    fn counts(&self, candidate: AtomSet, subset: AtomSet, ins: AtomSet, outs: AtomSet) -> bool
-        requires { contains candidate.0 subset.0 ≡ true }
-        ensures { result ≡ (meaning self.now).counts candidate.0 subset.0 ins.0 outs.0 };
+    fn counts(&self, at: Inside, ins: AtomSet, outs: AtomSet) -> bool
+        ensures { result ≡ (meaning self.now).counts at.candidate.0 at.subset.0 ins.0 outs.0 };
 
     /// Whether a tally passes, from whether its sign is negated, whether its relation holds for the candidate, and
     /// whether it holds for the subset over the elements that count.
@@ -28,7 +26,7 @@ pub trait Reading {
 }
 
 /// The reading of Faber, Leone and Pfeifer: everything is read in the subset.
-#[derive(Clone, Copy)]
+#[derive(Clone, Copy, Debug)]
 pub struct Flp;
 
 impl Reading for Flp {
@@ -36,8 +34,8 @@ impl Reading for Flp {
 
     ghost lawful = { λ r. flp_lawful };
 
-    fn counts(&self, _candidate: AtomSet, subset: AtomSet, ins: AtomSet, outs: AtomSet) -> bool {
-        subset.contains(ins) && subset.misses(outs)
+    fn counts(&self, at: Inside, ins: AtomSet, outs: AtomSet) -> bool {
+        at.subset.contains(ins) && at.subset.misses(outs)
     }
 
     fn passes(&self, negated: bool, _for_candidate: bool, for_subset: bool) -> bool {
@@ -46,7 +44,7 @@ impl Reading for Flp {
 }
 
 /// The reading of Ferraris: out sets and negated tallies are read in the candidate.
-#[derive(Clone, Copy)]
+#[derive(Clone, Copy, Debug)]
 pub struct Ferraris;
 
 impl Reading for Ferraris {
@@ -54,8 +52,8 @@ impl Reading for Ferraris {
 
     ghost lawful = { λ r. ferraris_lawful };
 
-    fn counts(&self, candidate: AtomSet, subset: AtomSet, ins: AtomSet, outs: AtomSet) -> bool {
-        subset.contains(ins) && candidate.misses(outs)
+    fn counts(&self, at: Inside, ins: AtomSet, outs: AtomSet) -> bool {
+        at.subset.contains(ins) && at.candidate.misses(outs)
     }
 
     fn passes(&self, negated: bool, for_candidate: bool, for_subset: bool) -> bool {

@@ -1,5 +1,5 @@
 -- A rule of the code as the rule of the definitions that it stands for.
-use Rattle.std.specs.Prelude.{List, map, vec_items}
+use Rattle.std.specs.Prelude.{map, vec_items}
 use Rattle.theory.specs.Rules.{Element, Relation, equal, unequal, below, above, at_most, at_least, unread, Sign, plain, negated, unsigned, Tally, Rule}
 use Rattle.rules.specs.declared.Element.{Element as StoredElement}
 use Rattle.rules.specs.declared.Relation.{Relation as StoredRelation}
@@ -42,6 +42,3 @@ rule_of r = record {
   mustnot = r.must_not.0;
   tallies = map tally_of (vec_items r.tallies);
 }
-
-abbrev pub rules_of : List StoredRule → List Rule
-rules_of rules = map rule_of rules

@@ -1,17 +1,21 @@
 // Rules, their tallies and the elements of those.
 #![tactic(auto)]
 
-ghost use Rattle.rules.specs.Views.{relation_of, sign_of};
+ghost use Rattle.rules.specs.Fits.{fit_rule};
+ghost use Rattle.rules.specs.Views.{relation_of, rule_of, sign_of};
 ghost use Rattle.theory.specs.Calls.{known_relation, known_sign, relation_coded, sign_coded};
 ghost use Rattle.theory.specs.Rules.{negates, relates};
-ghost use Rattle.std.specs.Prelude.{◌≡◌};
+ghost use Rattle.std.specs.Prelude.{◌≡◌, true};
 
 use sets::AtomSet;
 
-mod numbers;
+/// The most tallies that a rule may have, and the most elements of a tally.
+pub const MAX_TALLIES: u8 = 2;
+
+pub const MAX_ELEMENTS: u8 = 12;
 
 /// A weight, which counts where the in set is there and the out set is not.
-#[derive(Clone, Copy)]
+#[derive(Clone, Copy, Debug, PartialEq, Eq)]
 pub struct Element {
     pub ins: AtomSet,
     pub outs: AtomSet,
@@ -19,8 +23,9 @@ pub struct Element {
 }
 
 /// A relation between a total, on the left, and a bound. `Unread` is a code that was sent and is none of the six:
-/// no plan keeps one.
-#[derive(Clone, Copy)]
+/// no plan keeps one. A `Result` would be no plainer: the reader takes every code, and who uses a relation would have to
+/// say each time what an unread one means.
+#[derive(Clone, Copy, Debug, PartialEq, Eq)]
 pub enum Relation {
     Equal,
     Unequal,
@@ -32,8 +37,8 @@ pub enum Relation {
 }
 
 /// Whether a tally is met where its relation holds or where it fails. `Unread` is a code that was sent and is
-/// neither: no plan keeps one.
-#[derive(Clone, Copy)]
+/// neither: no plan keeps one. A `Result` would be no plainer, as for a relation.
+#[derive(Clone, Copy, Debug, PartialEq, Eq)]
 pub enum Sign {
     Plain,
     Negated,
@@ -60,11 +65,19 @@ pub struct Rule {
     pub tallies: Vec<Tally>,
 }
 
-impl Relation {
-    /// The relation with this code: 1 is =, 2 ≠, 3 <, 4 >, 5 ≤ and 6 ≥.
-    pub fn from_code(code: u8) -> Relation
-        ensures { relation_of result ≡ relation_coded code }
-    {
+/// A rule that a plan keeps: each of its tallies has at most 12 elements, of weights at most 1,000,000 from zero, so that
+/// its totals stay in range whatever the bank.
+#[derive(Drop)]
+pub struct FitRule {
+    pub rule: Rule,
+    ghost fit: { fit_rule (rule_of rule) ≡ true },
+}
+
+/// The relation with a code: 1 is =, 2 ≠, 3 <, 4 >, 5 ≤ and 6 ≥.
+impl From<u8> for Relation {
+    ghost from_gives = { λ code relation. relation_of relation ≡ relation_coded code };
+
+    fn from(code: u8) -> Relation {
         match code {
             1 => Relation::Equal,
             2 => Relation::Unequal,
@@ -75,7 +88,9 @@ impl Relation {
             _ => Relation::Unread(code),
         }
     }
+}
 
+impl Relation {
     /// Whether this is one of the six relations.
     pub fn is_known(self) -> bool
         ensures { result ≡ known_relation (relation_of self) }
@@ -87,22 +102,32 @@ impl Relation {
     pub fn holds(self, total: i32, bound: i32) -> bool
         ensures { result ≡ relates (relation_of self) total bound }
     {
-        numbers::related(self, total, bound)
+        match self {
+            Relation::Equal => total == bound,
+            Relation::Unequal => total != bound,
+            Relation::Below => total < bound,
+            Relation::Above => total > bound,
+            Relation::AtMost => total <= bound,
+            Relation::AtLeast => total >= bound,
+            Relation::Unread(_) => false,
+        }
     }
 }
 
-impl Sign {
-    /// The sign with this code: 0 is plain and 1 negated.
-    pub fn from_code(code: u8) -> Sign
-        ensures { sign_of result ≡ sign_coded code }
-    {
+/// The sign with a code: 0 is plain and 1 negated.
+impl From<u8> for Sign {
+    ghost from_gives = { λ code sign. sign_of sign ≡ sign_coded code };
+
+    fn from(code: u8) -> Sign {
         match code {
             0 => Sign::Plain,
             1 => Sign::Negated,
             _ => Sign::Unread(code),
         }
     }
+}
 
+impl Sign {
     /// Whether this is one of the two signs.
     pub fn is_known(self) -> bool
         ensures { result ≡ known_sign (sign_of self) }
@@ -114,6 +139,6 @@ impl Sign {
     pub fn is_negated(self) -> bool
         ensures { result ≡ negates (sign_of self) }
     {
-        matches!(self, Sign::Negated)
+        self == Sign::Negated
     }
 }

@@ -5,10 +5,8 @@ ghost use Rattle.sets.specs.Next.{Next};
 ghost use Rattle.theory.specs.Sets.{contains, misses, within};
 ghost use Rattle.std.specs.Prelude.{◌≡◌, true, ◌≢◌};
 
-mod bits;
-
 /// A set of atoms: bit n, worth 2^n, marks atom n.
-#[derive(Clone, Copy)]
+#[derive(Clone, Copy, Debug, PartialEq, Eq)]
 pub struct AtomSet(pub u32);
 
 impl AtomSet {
@@ -16,21 +14,21 @@ impl AtomSet {
     pub fn contains(self, other: AtomSet) -> bool
         ensures { result ≡ contains self.0 other.0 }
     {
-        bits::contained(self.0, other.0)
+        self.0 & other.0 == other.0
     }
 
     /// Whether the set has no atom of the other.
     pub fn misses(self, other: AtomSet) -> bool
         ensures { result ≡ misses self.0 other.0 }
     {
-        bits::missed(self.0, other.0)
+        self.0 & other.0 == 0
     }
 
     /// Whether each atom of the set is one of the first `atoms`.
     pub fn is_within(self, atoms: u8) -> bool
         ensures { result ≡ within atoms self.0 }
     {
-        bits::bounded(atoms, self.0)
+        atoms >= 32 || self.0 < 1u32 << atoms
     }
 
     /// The subset of `whole` that follows this one in ascending order of their numbers.
@@ -39,6 +37,28 @@ impl AtomSet {
         requires proper { self.0 ≢ whole.0 }
         ensures { Next whole.0 self.0 result.0 }
     {
-        AtomSet(bits::stepped(self.0, whole.0))
+        // Borrowing from the bits outside `whole` carries past them to the next bit of `whole`.
+        AtomSet(self.0.wrapping_sub(whole.0) & whole.0)
+    }
+}
+
+/// A candidate and a subset of it, which may be the candidate itself.
+#[derive(Clone, Copy)]
+pub struct Inside {
+    pub candidate: AtomSet,
+    pub subset: AtomSet,
+    ghost inside: { contains candidate.0 subset.0 ≡ true },
+}
+
+impl Inside {
+    /// A set inside itself.
+    pub fn whole(set: AtomSet) -> Inside
+        ensures candidate { result.candidate ≡ set }
+        ensures subset { result.subset ≡ set }
+    {
+        Inside {
+            candidate: set,
+            subset: set,
+        }
     }
 }

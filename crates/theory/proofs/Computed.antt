@@ -2,11 +2,11 @@
 use Rattle.std.proofs.Common.{refl}
 use Rattle.theory.specs.Sets.{contains, misses}
 use Rattle.theory.specs.Rules.{relates, total, fact}
-use Rattle.theory.specs.Verdicts.{first_failing, lowest, lowest_inside, first_broken}
+use Rattle.theory.specs.Verdicts.{lowest, lowest_inside, first_broken}
 use Rattle.theory.specs.Worked.{Worked}
 
 pub computed : Worked
-unfolding contains misses relates total fact first_failing lowest lowest_inside first_broken
+unfolding contains misses relates total fact lowest lowest_inside first_broken
 computed = record {
   choice_both = refl;
   choice_one = refl;

@@ -1,26 +1,7 @@
--- The searches of a verdict: the first place at which a test fails, and the lowest number that passes one.
-use Rattle.std.proofs.Common.{◌≡◌, ℕ, zero, suc, ◌+◌, ◌<◌, ◌≤◌, Bool, true, false, List, [], ◌∷◌, Some, None, Option, refl, ap, ◌∙◌, inl, inr, arith}
+-- The search for the lowest number that passes a test.
+use Rattle.std.proofs.Common.{◌≡◌, ℕ, zero, suc, ◌+◌, ◌<◌, ◌≤◌, Bool, true, false, Some, None, refl, ap, ◌∙◌, inl, inr, arith}
 use Rattle.std.proofs.lemmas.Bool.{cases_order}
-use Rattle.theory.specs.Verdicts.{first_failing, lowest}
-use Rattle.theory.proofs.Lists.{either_first}
-
--- what the test at a place gives
-abbrev pub failing_at : ℕ → Bool → Option ℕ
-failing_at k true = None
-failing_at k false = Some k
-
-pub failing_more : {A : Type 0} (p : A → Bool) (x : A) (xs : List A) (k : ℕ)
-    → first_failing p (x ∷ xs) k ≡ either_first (failing_at k (p x)) (first_failing p xs (suc k))
-unfolding first_failing
-failing_more p x xs k = step (p x) (first_failing p xs (suc k))
-  where
-    step : (b : Bool) (o : Option ℕ) → elim b [ true ↦ o | false ↦ Some k ] ≡ either_first (failing_at k b) o
-    step true o = refl
-    step false o = refl
-
-pub failing_none : {A : Type 0} (p : A → Bool) (k : ℕ) → first_failing p [] k ≡ None
-unfolding first_failing
-failing_none p k = refl
+use Rattle.theory.specs.Verdicts.{lowest}
 
 -- ---- the lowest number from k on
 lowest_more : (p : ℕ → Bool) (n k : ℕ) (b : Bool) → p k ≡ b → lowest p (suc n) k ≡ elim b [ true ↦ Some k | false ↦ lowest p n (suc k) ]

@@ -1,11 +1,10 @@
 -- A plan, and what its calls answer and leave: name, enter, withdraw, reweigh and judge, with the tests that refuse, in
 -- their order.
 use Rattle.std.specs.Prelude.{◌≡◌, ℕ, zero, suc, ◌-◌, Bool, true, false, cond, not, ◌&&◌, ◌||◌, ◌↔◌, List, [], ◌∷◌, ◌++◌, length, take, drop, ℤ, Some, None, Ok, Err, Option, Result, ◌==◌, count_ones, nat_le, nat_lt, unsigned_abs}
-use Rattle.std.specs.List.{ContainsAt as Has}
+use Rattle.std.specs.List.{ContainsAt as Has, list_all, list_any}
 use Rattle.std.specs.Str.{bytes_eq}
 use Rattle.theory.specs.Sets.{within}
 use Rattle.theory.specs.Banks.{Bank}
-use Rattle.theory.specs.Lists.{every}
 use Rattle.theory.specs.Rules.{Element, Relation, equal, unequal, below, above, at_most, at_least, unread, Sign, plain, negated, unsigned, Tally, Rule, has_kind}
 use Rattle.theory.specs.Readings.{Reading}
 use Rattle.theory.specs.Verdicts.{Verdict, verdict}
@@ -78,8 +77,7 @@ is_name_byte b = between 48 57 b || between 65 90 b || between 97 122 b || b == 
 
 -- one of the names agrees with the bytes in length and in every byte
 abbrev pub borne : List (List ℕ) → List ℕ → Bool
-borne [] bytes = false
-borne (name ∷ names) bytes = bytes_eq name bytes || borne names bytes
+borne names bytes = list_any (λ name. bytes_eq name bytes) names
 
 -- A name is borne exactly when one of the names is the same list of bytes: nothing of it is cut off or passed over.
 abbrev pub NamesByBytes : Type 0
@@ -89,7 +87,7 @@ NamesByBytes = (names : List (List ℕ)) (bytes : List ℕ) → (borne names byt
 abbrev pub text_tests : List ℕ → List (Test Refusal)
 text_tests bytes =
     record { applies = not (between 1 16 (length bytes)); answer = name_length }
-    ∷ record { applies = not (every is_name_byte bytes); answer = name_byte }
+    ∷ record { applies = not (list_all is_name_byte bytes); answer = name_byte }
     ∷ []
 
 abbrev pub atom_tests : List (List ℕ) → List ℕ → List (Test Refusal)
@@ -138,9 +136,13 @@ element_tests atoms t e x =
     ∷ refuse_if (not (at_most_from_zero 1000000 x.weight)) heavy_weight t e
     ∷ []
 
+-- the tests at each place of a list, from this place on
+abbrev pub tests_from : {A B : Type 0} → (ℕ → A → List (Test B)) → ℕ → List A → List (Test B)
+tests_from tests place [] = []
+tests_from tests place (x ∷ xs) = tests place x ++ tests_from tests (suc place) xs
+
 abbrev pub elements_tests : ℕ → ℕ → ℕ → List Element → List (Test Refused)
-elements_tests atoms t e [] = []
-elements_tests atoms t e (x ∷ xs) = element_tests atoms t e x ++ elements_tests atoms t (suc e) xs
+elements_tests atoms t e xs = tests_from (element_tests atoms t) e xs
 
 -- a tally's own fields
 abbrev pub field_tests : Bank → ℕ → Tally → List (Test Refused)
@@ -156,8 +158,7 @@ abbrev pub tally_tests : Bank → ℕ → ℕ → Tally → List (Test Refused)
 tally_tests bank atoms t x = field_tests bank t x ++ elements_tests atoms t 1 x.elements
 
 abbrev pub tallies_tests : Bank → ℕ → ℕ → List Tally → List (Test Refused)
-tallies_tests bank atoms t [] = []
-tallies_tests bank atoms t (x ∷ xs) = tally_tests bank atoms t x ++ tallies_tests bank atoms (suc t) xs
+tallies_tests bank atoms t xs = tests_from (tally_tests bank atoms) t xs
 
 -- the rule's three sets and the number of its tallies
 abbrev pub rule_tests : ℕ → Rule → List (Test Refused)

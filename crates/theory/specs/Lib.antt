@@ -1,4 +1,3 @@
-pub mod Lists
 pub mod Sets
 pub mod Banks
 pub mod Rules

@@ -1,8 +1,8 @@
 -- Elements, tallies and rules; what a set of atoms counts, meets and holds.
 use Rattle.std.specs.Prelude.{ℕ, Bool, true, false, cond, not, ◌&&◌, ◌||◌, List, [], ◌∷◌, ℤ, int_le, int_lt, nat_le}
+use Rattle.std.specs.List.{list_all}
 use Rattle.theory.specs.Sets.{contains, misses}
 use Rattle.theory.specs.Banks.{Bank}
-use Rattle.theory.specs.Lists.{every}
 
 -- one weight of a tally, with the set that must be there and the set that must not for it to count
 pub record Element : Type 0 where
@@ -77,7 +77,7 @@ abbrev pub met : Bank → ℕ → Tally → Bool
 met bank s t = as_signed (negates t.sign) (fact bank t (counted s))
 
 abbrev pub holds_body : Bank → ℕ → Rule → Bool
-holds_body bank s r = contains s r.must && (misses s r.mustnot && every (met bank s) r.tallies)
+holds_body bank s r = contains s r.must && (misses s r.mustnot && list_all (met bank s) r.tallies)
 
 -- it does not hold the body, or it contains a head atom
 abbrev pub holds_rule : Bank → ℕ → Rule → Bool

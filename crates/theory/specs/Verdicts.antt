@@ -1,8 +1,9 @@
 -- The reduct at a candidate, when a set satisfies it, and the verdict.
-use Rattle.std.specs.Prelude.{ℕ, zero, suc, Bool, true, false, not, ◌&&◌, ◌||◌, List, [], ◌∷◌, Some, None, Option}
+use Rattle.std.specs.Prelude.{ℕ, zero, suc, Bool, true, false, not, ◌&&◌, ◌||◌, List, Some, None, Option}
+use Rattle.std.specs.List.{list_all, position}
+use Rattle.std.specs.Option.{option_map}
 use Rattle.theory.specs.Sets.{contains, misses}
 use Rattle.theory.specs.Banks.{Bank}
-use Rattle.theory.specs.Lists.{every}
 use Rattle.theory.specs.Rules.{Element, Tally, Rule, fact, counted, negates, holds_body, holds_rule}
 use Rattle.theory.specs.Readings.{Reading}
 
@@ -19,20 +20,15 @@ passed bank r i j t = r.passes (negates t.sign) (fact bank t (counted i)) (fact 
 abbrev pub satisfies_rule : Bank → Reading → ℕ → ℕ → Rule → Bool
 satisfies_rule bank r i j u =
     not (holds_body bank i u)
-    || not (contains j u.must && (every (passed bank r i j) u.tallies && misses j u.head))
+    || not (contains j u.must && (list_all (passed bank r i j) u.tallies && misses j u.head))
 
 -- J satisfies the reduct
 abbrev pub satisfies : Bank → Reading → List Rule → ℕ → ℕ → Bool
-satisfies bank r rules i j = every (satisfies_rule bank r i j) rules
+satisfies bank r rules i j = list_all (satisfies_rule bank r i j) rules
 
 -- J is inside I and satisfies the reduct
 abbrev pub fits_inside : Bank → Reading → List Rule → ℕ → ℕ → Bool
 fits_inside bank r rules i j = contains i j && satisfies bank r rules i j
-
--- the first place, counted from k, at which the test fails
-unfoldable pub first_failing : {A : Type 0} → (A → Bool) → List A → ℕ → Option ℕ
-first_failing p [] k = None
-first_failing p (x ∷ xs) k = elim (p x) [ true ↦ first_failing p xs (suc k) | false ↦ Some k ]
 
 -- the lowest of the n numbers from k on that passes the test
 unfoldable pub lowest : (ℕ → Bool) → ℕ → ℕ → Option ℕ
@@ -49,9 +45,9 @@ pub data Verdict : Type 0 where
 unfoldable pub lowest_inside : Bank → Reading → List Rule → ℕ → Option ℕ
 lowest_inside bank r rules i = lowest (fits_inside bank r rules i) i 0
 
--- the first place whose rule I does not hold
+-- the first place whose rule I does not hold: places count from 1
 unfoldable pub first_broken : Bank → List Rule → ℕ → Option ℕ
-first_broken bank rules i = first_failing (holds_rule bank i) rules 1
+first_broken bank rules i = option_map suc (position (λ u. not (holds_rule bank i u)) rules)
 
 abbrev pub by_subset : Option ℕ → Verdict
 by_subset (Some j) = smaller j

@@ -5,12 +5,12 @@ use borrow.Author.Differences.{ints}
 use lib.IntN.{neg_ℤ, nat_abs}
 use Rattle.theory.specs.Banks.{Light, Near}
 use Rattle.banks.proofs.Turned.{turned}
-use Rattle.banks.proofs.mirrors.mirrored_step.Goals as goal
+use Rattle.banks.proofs.MirrorBank.step.Goals as goal
 
 -- the step below is from the total and the weight with their signs changed
-stepped : (g : _) (c : goal.After-step g) → (c.step.result ≡ (g.B.Bank.meaning c.args.below.now).step c.args.kind (neg_ℤ c.args.total) (neg_ℤ c.args.weight)) × (nat_abs c.step.result ≤ 25000001)
+stepped : (g : _) (c : goal.After-step g) → (c.step.result ≡ (g.B.Bank.meaning c.args.self.now.below).step c.args.kind (neg_ℤ c.args.total) (neg_ℤ c.args.weight)) × (nat_abs c.step.result ≤ 25000001)
 stepped g c =
-    let l = g.met.B.Bank.lawful c.args.below.now in
+    let l = g.met.B.Bank.lawful c.args.self.now.below in
     let t = turned c.args.total (omega arith) in
     let w = turned c.args.weight (omega arith) in
     let n : Near (neg_ℤ c.args.total) = omega (arith, ints) in

@@ -3,7 +3,7 @@ use lib.Signed.{le_z, lt_z}
 use Rattle.std.proofs.lemmas.Int.{ints, to_z-of_z}
 use Rattle.std.proofs.lemmas.Bool.Decides.{nat_tests}
 use Rattle.theory.specs.Rules.{relates}
-use Rattle.rules.proofs.numbers.related.Goals as goal
+use Rattle.rules.proofs.Relation.holds.Goals as goal
 
 -- numbers of 32 bits are equal when their bits are
 same : (a b : ℤ) → SFits w32 a → SFits w32 b → eqb (of_z w32 a) (of_z w32 b) ≡ (le_z a b && le_z b a)
