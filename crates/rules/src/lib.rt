@@ -99,6 +99,7 @@ impl Relation {
     }
 
     /// Whether the relation holds between a total and a bound.
+    #[tactic(auto, using(crate::proofs::Numbers::same), unfolding(theory::specs::Rules::relates))]
     pub fn holds(self, total: i32, bound: i32) -> bool
         ensures { result ≡ relates (relation_of self) total bound }
     {

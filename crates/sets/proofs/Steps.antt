@@ -74,7 +74,7 @@ and_inside : (x i : ℕ) → contains i (bit_and x i) ≡ true
 and_inside x i = contains_from i (bit_and x i) (λ n h. (and_parts (has x n) (has i n) (sym (has_and x i n) ∙ h)).1)
 
 -- the number that the code makes
-pub next_is : (i j : ℕ) → i < 2 ^ 32 → contains i j ≡ true → (j ≡ i → ⊥) → Next i j (bit_and ((j + (2 ^ 32 - i)) % 2 ^ 32) i)
+pub next_is : (i j : ℕ) → i < 4294967296 → contains i j ≡ true → (j ≡ i → ⊥) → Next i j (bit_and ((j + (4294967296 - i)) % 4294967296) i)
 next_is i j fits c proper =
     let e = inside_is i j c in
     let below : j < i = omega (arith, contains_le i j c, proper) in

@@ -11,6 +11,7 @@ pub struct AtomSet(pub u32);
 
 impl AtomSet {
     /// Whether the set contains each atom of the other.
+    #[tactic(auto, unfolding(theory::specs::Sets::contains))]
     pub fn contains(self, other: AtomSet) -> bool
         ensures { result ≡ contains self.0 other.0 }
     {
@@ -18,6 +19,7 @@ impl AtomSet {
     }
 
     /// Whether the set has no atom of the other.
+    #[tactic(auto, unfolding(theory::specs::Sets::misses))]
     pub fn misses(self, other: AtomSet) -> bool
         ensures { result ≡ misses self.0 other.0 }
     {
@@ -25,6 +27,7 @@ impl AtomSet {
     }
 
     /// Whether each atom of the set is one of the first `atoms`.
+    #[tactic(auto, using(crate::proofs::Shifts::all_within, crate::proofs::Shifts::shifted), unfolding(theory::specs::Sets::within))]
     pub fn is_within(self, atoms: u8) -> bool
         ensures { result ≡ within atoms self.0 }
     {
@@ -52,6 +55,7 @@ pub struct Inside {
 
 impl Inside {
     /// A set inside itself.
+    #[tactic(auto, using(theory::proofs::SetLaws::contains_self))]
     pub fn whole(set: AtomSet) -> Inside
         ensures candidate { result.candidate ≡ set }
         ensures subset { result.subset ≡ set }

@@ -1,8 +1,8 @@
-use mathlib.Core.Path.{◌≡◌, ap, ◌∙◌}
+use mathlib.Core.Path.{◌≡◌, ap, ap₂, ◌∙◌}
 use Prim.Native.Nat.{◌≤◌}
 use native.Mathlib.Omega.{arith}
 use borrow.Author.Differences.{ints}
-use lib.IntN.{neg_ℤ, nat_abs}
+use lib.IntN.{ℤ, neg_ℤ, nat_abs}
 use Rattle.theory.specs.Banks.{Light, Near}
 use Rattle.banks.proofs.Turned.{turned}
 use Rattle.banks.proofs.MirrorBank.step.Goals as goal
@@ -15,7 +15,7 @@ stepped g c =
     let w = turned c.args.weight (omega arith) in
     let n : Near (neg_ℤ c.args.total) = omega (arith, ints) in
     let q : Light (neg_ℤ c.args.weight) = omega (arith, ints) in
-    let e = rw (t, w) at c.step.ensures in
+    let e = c.step.ensures ∙ ap₂ (λ (z v : ℤ). (g.B.Bank.meaning c.args.self.now.below).step c.args.kind z v) t w in
     (e, omega (arith, ints, e, l.short_step c.args.kind (neg_ℤ c.args.total) (neg_ℤ c.args.weight) c.requires.kinds q n))
 
 pub overflow_sub-result : goal.overflow_sub-result
