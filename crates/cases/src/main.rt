@@ -1,10 +1,11 @@
 // A table of cases: each line's file is played, and its report and its ending are printed.
 #![tactic(auto)]
 
-ghost use Rattle.std.specs.Prelude.{◌≡◌, ℕ, ◌<◌, ◌≤◌, length, IfSome, IfOk, MatchBool, ◌≢◌, slice_index};
-ghost use Rattle.cases.specs.Hex.{byte_value, digit_value};
+ghost use Rattle.std.specs.Prelude.{◌≡◌, ◌==◌, ◌≤◌, IfOk, not};
+ghost use Rattle.std.specs.List.{list_any};
 
 use files::play::play;
+use hex::FromHexError;
 use std::alloc::{AllocError, AllocFailed, Global};
 use std::io;
 use std::io::{BufRead, BufReader};
@@ -39,6 +40,15 @@ impl<T: Drop> From<AllocFailed<T>> for LineFault {
     }
 }
 
+impl From<FromHexError> for LineFault {
+    fn from(error: FromHexError) -> LineFault {
+        match error {
+            FromHexError::OutOfMemory => LineFault::NoMemory(AllocError),
+            _ => LineFault::BadForm,
+        }
+    }
+}
+
 /// A file, and the length of the report that it is played with.
 #[derive(Drop)]
 struct Case {
@@ -53,39 +63,6 @@ struct Word<'a> {
     count: usize,
 }
 
-fn digit_value(digit: u8) -> Option<u8>
-    ensures value { result ≡ digit_value digit }
-    ensures small { IfSome result (λ v. v < 16) }
-{
-    match digit {
-        b'0'..=b'9' => Some(digit - b'0'),
-        b'a'..=b'f' => Some(digit - b'a' + 10),
-        b'A'..=b'F' => Some(digit - b'A' + 10),
-        _ => None,
-    }
-}
-
-// The byte that two digits write.
-fn byte_value(pair: &[u8]) -> Option<u8>
-    ensures { result ≡ byte_value pair.now }
-{
-    let [high, low] = pair else {
-        return None;
-    };
-    let high = digit_value(*high)?;
-    let low = digit_value(*low)?;
-    Some(high * 16 + low)
-}
-
-fn decoded(heap: Global, digits: &str) -> Result<Vec<u8>, LineFault> {
-    let mut bytes = Vec::new(heap);
-    for pair in digits.as_bytes().chunks(2) {
-        let byte = byte_value(pair).ok_or(LineFault::BadForm)?;
-        bytes.push(byte)?;
-    }
-    Ok(bytes)
-}
-
 fn number(text: &str) -> Result<usize, LineFault>
     ensures { IfOk result (λ n. n ≤ 70000) }
 {
@@ -95,8 +72,10 @@ fn number(text: &str) -> Result<usize, LineFault>
     }
 }
 
-impl<'a> Word<'a> {
-    fn parse(text: &'a str) -> Result<Word<'a>, LineFault> {
+impl<'a> TryFrom<&'a str> for Word<'a> {
+    type Error = LineFault;
+
+    fn try_from(text: &'a str) -> Result<Word<'a>, LineFault> {
         match text.split_once('*') {
             Some((digits, count)) => Ok(Word {
                 digits,
@@ -120,8 +99,8 @@ fn append(file: &mut Vec<u8>, bytes: &[u8], count: usize) -> Result<(), LineFaul
 fn file_of(heap: Global, words: &str) -> Result<Vec<u8>, LineFault> {
     let mut file = Vec::new(heap);
     for text in words.split_whitespace() {
-        let Word { digits, count } = Word::parse(text)?;
-        let bytes = decoded(heap, digits)?;
+        let Word { digits, count } = Word::try_from(text)?;
+        let bytes = hex::decode(heap, digits)?;
         append(&mut file, bytes.as_slice(), count)?;
     }
     Ok(file)
@@ -141,16 +120,9 @@ fn case_of(heap: Global, line: &str) -> Result<Case, LineFault> {
 }
 
 fn is_touched(rest: &[u8]) -> bool
-    ensures { MatchBool result
-        ((k : ℕ) × (k < length rest.now) × (slice_index rest.now k ≢ 46))
-        ((k : ℕ) → k < length rest.now → slice_index rest.now k ≡ 46) }
+    ensures { result ≡ list_any (λ byte. not (byte == 46)) rest.now }
 {
-    for byte in rest {
-        if *byte != UNTOUCHED {
-            return true;
-        }
-    }
-    false
+    rest.iter().any(|byte| *byte != UNTOUCHED)
 }
 
 fn show_case(rt: &HostRuntime, case: &Case) -> io::Result<()> {

@@ -16,6 +16,6 @@ fn main(rt: HostRuntime) -> io::Result<()> {
     rt.stdin().take(LIMIT).read_to_end(&mut file)?;
     let mut report = Vec::from_elem(heap, 0u8, REPORT)?;
     let Played { written, fault: _ } = play(heap, file.as_slice(), report.as_mut_slice());
-    let end = written.min(report.len());
-    rt.stdout().write_all(&report.as_slice()[0..end])
+    report.truncate(written);
+    rt.stdout().write_all(report.as_slice())
 }

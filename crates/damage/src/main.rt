@@ -111,7 +111,7 @@ impl Player {
         let (text, rest) = report.split_at(answer.written);
         digest.add_play(answer, text);
         self.plays = self.plays.saturating_add(1);
-        if is_touched(rest) {
+        if rest.iter().any(|byte| *byte != UNTOUCHED) {
             self.touched = self.touched.saturating_add(1);
         }
         answer
@@ -147,15 +147,6 @@ impl Player {
         }
         digest
     }
-}
-
-fn is_touched(rest: &[u8]) -> bool {
-    for byte in rest {
-        if *byte != UNTOUCHED {
-            return true;
-        }
-    }
-    false
 }
 
 // The good file repeated, and cut to `size` bytes.

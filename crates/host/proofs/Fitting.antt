@@ -1,16 +1,16 @@
 -- No number of a report is cut to fit its digits.
-use Rattle.std.proofs.Common.{◌≡◌, ℕ, zero, suc, ◌+◌, ◌-◌, ◌^◌, ◌<◌, ◌≤◌, Bool, true, false, cond, leb, List, [], ◌∷◌, ◌++◌, length, Some, None, Ok, Err, Option, sym, refl, ap, ◌∙◌, subst, arith, lit≤}
+use Rattle.std.proofs.Common.{◌≡◌, ℕ, zero, suc, ◌+◌, ◌-◌, ◌^◌, ◌<◌, ◌≤◌, Bool, true, false, cond, not, leb, ltb, List, [], ◌∷◌, ◌++◌, length, Some, None, Ok, Err, Option, sym, refl, ap, ◌∙◌, subst, arith, lit≤}
 use native.Mathlib.Nat.{pow-le-pow_right}
 use Rattle.std.proofs.lemmas.List.{length-append}
 use Rattle.std.proofs.lemmas.Bool.{leb-false, ltb-true, not-false}
-use Rattle.std.specs.List.{AllByRecursion}
+use Rattle.std.specs.List.{AllByRecursion, position_or_len}
+use Rattle.std.specs.Option.{option_map, option_or}
 use Rattle.theory.specs.Banks.{Bank}
 use Rattle.theory.specs.Readings.{Reading}
 use Rattle.theory.specs.Rules.{Element, Tally, Rule, holds_rule}
 use Rattle.theory.specs.Sets.{within}
-use Rattle.theory.specs.Verdicts.{first_failing, first_broken, lowest, lowest_inside, fits_inside, by_place, by_subset, verdict}
+use Rattle.theory.specs.Verdicts.{first_broken, lowest, lowest_inside, fits_inside, by_place, by_subset, verdict}
 use Rattle.theory.specs.Calls.{Plan, Refusal, Refused, number, name_length, name_byte, name_borne, atoms_full, rules_full, unnamed_mark, too_many_tallies, too_many_elements, no_kind, no_relation, no_sign, far_bound, heavy_weight, no_such_place, too_many_marks, Test, first_applying, unless_refused, left_by, text_tests, atom_tests, name_refusal, element_tests, elements_tests, field_tests, tally_tests, tallies_tests, rule_tests, refuse_if, enter_refusal, judge_tests}
-use Rattle.theory.proofs.Lists.{either_first}
 use Rattle.plans.proofs.Firsts.{first_join}
 use Rattle.plans.proofs.Untested.{none_all, fields_few}
 use Rattle.plans.proofs.Entries.{sets_few}
@@ -56,7 +56,7 @@ module _ {A : Type 0} (P : A → Type 0) where
       → (None ≡ first_applying xs → (f : A) → Some f ≡ first_applying ys → P f) → (f : A) → Some f ≡ first_applying (xs ++ ys) → P f
   first_of xs ys left right f e = by (first_applying xs) refl (e ∙ first_join xs ys)
     where
-      by : (o : Option A) → first_applying xs ≡ o → Some f ≡ either_first o (first_applying ys) → P f
+      by : (o : Option A) → first_applying xs ≡ o → Some f ≡ option_or o (first_applying ys) → P f
       by (Some g) at h = left f (h ∙ sym at)
       by None at h = right (sym at) f h
 
@@ -108,15 +108,6 @@ rule_room bank plan rule e =
     (none_all (refuse_if (leb 64 (length plan.rules)) rules_full 0 0 ∷ rule_tests (length plan.names) rule ++ tallies_tests bank (length plan.names) 1 rule.tallies) e).0
 
 -- ---- the numbers of a verdict
-failing_below : {A : Type 0} (p : A → Bool) (xs : List A) (k n : ℕ) → Some n ≡ first_failing p xs k → n < k + length xs
-unfolding first_failing
-failing_below p [] k n e = let z : ◌≡◌ {A = ℕ} 1 0 = ap (λ (o : Option ℕ). elim o [ Some g ↦ 1 | None ↦ 0 ]) e in absurd (omega arith)
-failing_below p (x ∷ xs) k n e = by (p x) (failing_below p xs (suc k) n) e
-  where
-    by : (b : Bool) → (Some n ≡ first_failing p xs (suc k) → n < suc k + length xs) → Some n ≡ elim b [ true ↦ first_failing p xs (suc k) | false ↦ Some k ] → n < k + length (x ∷ xs)
-    by true more h = let l = more h in omega arith
-    by false more h = let same : n ≡ k = ap (λ (o : Option ℕ). elim o [ Some g ↦ g | None ↦ 0 ]) h in omega arith
-
 lowest_below : (p : ℕ → Bool) (n k s : ℕ) → Some s ≡ lowest p n k → s < k + n
 unfolding lowest
 lowest_below p zero k s e = let z : ◌≡◌ {A = ℕ} 1 0 = ap (λ (o : Option ℕ). elim o [ Some g ↦ 1 | None ↦ 0 ]) e in absurd (omega arith)
@@ -128,7 +119,16 @@ lowest_below p (suc n) k s e = by (p k) (lowest_below p n (suc k) s) e
 
 broken_below : (bank : Bank) (rules : List Rule) (i n : ℕ) → Some n ≡ first_broken bank rules i → n < 1 + length rules
 unfolding first_broken
-broken_below bank rules i n e = failing_below (holds_rule bank i) rules 1 n e
+broken_below bank rules i n e = by (ltb m (length rules)) refl e
+  where
+    m : ℕ
+    m = position_or_len (λ u. not (holds_rule bank i u)) rules
+
+    by : (b : Bool) → ltb m (length rules) ≡ b → Some n ≡ option_map suc (cond b (Some m) None) → n < 1 + length rules
+    by true h k =
+        let same : n ≡ suc m = ap (λ (o : Option ℕ). elim o [ Some g ↦ g | None ↦ 0 ]) k in
+        let below = ltb-true m (length rules) h in omega arith
+    by false h k = let z : ◌≡◌ {A = ℕ} 1 0 = ap (λ (o : Option ℕ). elim o [ Some g ↦ 1 | None ↦ 0 ]) k in absurd (omega arith)
 
 inside_below : (bank : Bank) (reading : Reading) (rules : List Rule) (i s : ℕ) → Some s ≡ lowest_inside bank reading rules i → s < 0 + i
 unfolding lowest_inside

@@ -3,6 +3,7 @@ use Rattle.std.specs.Prelude.{◌≡◌, ◌≢◌, ℕ, ◌≤◌, ◌⊎◌, L
 use Rattle.files.specs.declared.play.PlayFault.{PlayFault}
 use Rattle.files.specs.declared.play.PlayFault.TheVariants.{InputTooLong, ReportFull, NoMemory, Unreadable}
 use Rattle.files.specs.Plays.{Ending, input_ended, input_too_long, report_full, unreadable, ending_number, Outcome, over}
+use Rattle.files.specs.declared.play.Played.{Played}
 use Rattle.host.specs.declared.PlayAnswer.{PlayAnswer}
 
 -- the offset of a record that cannot be read
@@ -12,6 +13,12 @@ ending_offset (Some InputTooLong) = 0
 ending_offset (Some ReportFull) = 0
 ending_offset (Some NoMemory) = 0
 ending_offset (Some (Unreadable offset fault)) = offset
+
+-- the numbers of what a play gave
+pub record Numbers (played : Played) (answer : PlayAnswer) : Type 0 where
+  pub written : answer.written ≡ played.written
+  pub fault : answer.fault ≡ ending_number played.fault
+  pub offset : answer.offset ≡ ending_offset played.fault
 
 -- the fault that tells what ended a play
 abbrev pub fault_of : Ending → Option PlayFault

@@ -2,9 +2,8 @@
 -- enough.
 use Rattle.std.specs.Prelude.{◌≡◌, ℕ, ◌+◌, ◌-◌, ◌*◌, ◌%◌, ◌<◌, ◌≤◌, Bool, true, cond, List, [], ◌∷◌, ◌++◌, length, take, drop, Ok, Err, Result, ◌≢◌, slice_index}
 use Rattle.std.specs.Str.Parse.{digits_value}
-use Rattle.std.specs.List.{AllByRecursion}
+use Rattle.std.specs.List.{AllByRecursion, list_all}
 use Rattle.theory.specs.Banks.{Bank}
-use Rattle.theory.specs.Lists.{every}
 use Rattle.theory.specs.Calls.{Plan, Refused, number, new_plan, between}
 use Rattle.theory.specs.Verdicts.{broken, smaller, stable}
 use Rattle.records.specs.declared.fault.ReaderFault.{ReaderFault}
@@ -70,7 +69,7 @@ pub record ALine (line : List ℕ) : Type 0 where
   pub short : length line ≤ 20
   pub body : List ℕ
   pub ended : line ≡ body ++ 10 ∷ []
-  pub plain : every printable body ≡ true
+  pub plain : list_all printable body ≡ true
 
 abbrev pub LinesAreText : Type 0
 LinesAreText =

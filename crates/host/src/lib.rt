@@ -1,8 +1,8 @@
 // Play as a C program calls it: on the bytes of a file and of a report, answering plain numbers.
 #![tactic(auto)]
 
-ghost use Rattle.files.specs.Plays.{ending_number, playing};
-ghost use Rattle.host.specs.Answers.{Answers, ending_offset};
+ghost use Rattle.files.specs.Plays.{playing};
+ghost use Rattle.host.specs.Answers.{Answers, Numbers, ending_offset};
 ghost use Rattle.host.specs.Laws.{DigitsReadBack, FrontsTheLonger, InTurn, LineByLine, LinesAreText, LinesTell, NumbersFit, RefusalsLeaveThePlan, RoomEnough};
 ghost use Rattle.std.specs.Prelude.{◌≡◌, length};
 
@@ -11,7 +11,7 @@ use std::alloc::Global;
 
 /// What a play answers, in numbers.
 #[repr(C)]
-#[derive(Clone, Copy)]
+#[derive(Clone, Copy, Debug, PartialEq, Eq)]
 pub struct PlayAnswer {
     /// How many bytes of the report were written.
     pub written: usize,
@@ -30,15 +30,15 @@ fn offset_of(fault: Option<PlayFault>) -> u32
     }
 }
 
-fn numbers(played: Played) -> PlayAnswer
-    ensures written { result.written ≡ played.written }
-    ensures fault { result.fault ≡ ending_number played.fault }
-    ensures offset { result.offset ≡ ending_offset played.fault }
-{
-    PlayAnswer {
-        written: played.written,
-        fault: u32::from(played.number()),
-        offset: offset_of(played.fault),
+impl From<Played> for PlayAnswer {
+    ghost from_gives = { Numbers };
+
+    fn from(played: Played) -> PlayAnswer {
+        PlayAnswer {
+            written: played.written,
+            fault: u32::from(played.number()),
+            offset: offset_of(played.fault),
+        }
     }
 }
 
@@ -56,5 +56,5 @@ pub fn linenscribe_play(heap: Global, file: &[u8], report: &mut [u8]) -> PlayAns
     ensures fronts_the_longer { FrontsTheLonger }
     ensures room_enough { RoomEnough }
 {
-    numbers(play(heap, file, report))
+    PlayAnswer::from(play(heap, file, report))
 }

@@ -33,20 +33,20 @@ mark_of a b =
 abbrev pub read_mark : List ℕ → Read Mark
 read_mark bytes = and_then (read_slice 2 bytes) λ field rest. read_in (λ m. m) (mark_of (slice_index field 0) (slice_index field 1)) rest
 
+abbrev pub same_mark : Mark → Mark → Bool
+same_mark NA NA = true
+same_mark RU RU = true
+same_mark TA TA = true
+same_mark EL EL = true
+same_mark JU JU = true
+same_mark _ _ = false
+
 -- a part of a rule begins with its own mark
 abbrev pub is_tally : Mark → Bool
-is_tally NA = false
-is_tally RU = false
-is_tally TA = true
-is_tally EL = false
-is_tally JU = false
+is_tally = same_mark TA
 
 abbrev pub is_element : Mark → Bool
-is_element NA = false
-is_element RU = false
-is_element TA = false
-is_element EL = true
-is_element JU = false
+is_element = same_mark EL
 
 abbrev pub expect : (Mark → Bool) → List ℕ → Read (Unit {0})
 expect wanted bytes = and_then (read_mark bytes) λ m rest. cond (wanted m) (got tt rest) (failed UnknownMark)
@@ -57,6 +57,12 @@ abbrev pub repeated : {A : Type 0} → (List ℕ → Read A) → ℕ → List �
 repeated one zero bytes = got [] bytes
 repeated one (suc n) bytes = and_then (one bytes) λ x rest. and_then (repeated one n rest) λ xs rest. got (x ∷ xs) rest
 
+-- the parts behind their count, of which there are at most this many
+abbrev pub read_parts : {A : Type 0} → ℕ → ReaderFault → (List ℕ → Read A) → List ℕ → Read (List A)
+read_parts most too_many one bytes =
+    and_then (read_byte bytes) λ count rest.
+    cond (nat_lt most count) (failed too_many) (repeated one count rest)
+
 abbrev pub read_element : List ℕ → Read Element
 read_element bytes =
     and_then (expect is_element bytes) λ _ rest.
@@ -66,9 +72,7 @@ read_element bytes =
     got (record { ins = ins; outs = outs; weight = weight }) rest
 
 abbrev pub read_elements : List ℕ → Read (List Element)
-read_elements bytes =
-    and_then (read_byte bytes) λ count rest.
-    cond (nat_lt 12 count) (failed TooManyElements) (repeated read_element count rest)
+read_elements = read_parts 12 TooManyElements read_element
 
 abbrev pub read_tally : List ℕ → Read Tally
 read_tally bytes =
@@ -81,9 +85,7 @@ read_tally bytes =
     got (record { kind = kind; relation = relation_coded relation; sign = sign_coded sign; bound = bound; elements = elements }) rest
 
 abbrev pub read_tallies : List ℕ → Read (List Tally)
-read_tallies bytes =
-    and_then (read_byte bytes) λ count rest.
-    cond (nat_lt 2 count) (failed TooManyTallies) (repeated read_tally count rest)
+read_tallies = read_parts 2 TooManyTallies read_tally
 
 abbrev pub read_rule : List ℕ → Read Rule
 read_rule bytes =

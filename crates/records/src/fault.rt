@@ -6,7 +6,7 @@ ghost use Rattle.std.specs.Prelude.{◌≡◌};
 use std::alloc::AllocError;
 
 /// Why a record cannot be read.
-#[derive(Clone, Copy)]
+#[derive(Clone, Copy, Debug, PartialEq, Eq)]
 pub enum ReaderFault {
     /// The input ends before the next field does.
     Short,
@@ -22,12 +22,12 @@ pub enum ReaderFault {
     NoMemory,
 }
 
-impl ReaderFault {
-    /// The fault's number in reports.
-    pub fn number(self) -> u8
-        ensures { result ≡ reader_number self }
-    {
-        match self {
+/// The fault's number in reports.
+impl From<ReaderFault> for u8 {
+    ghost from_gives = { λ fault number. number ≡ reader_number fault };
+
+    fn from(fault: ReaderFault) -> u8 {
+        match fault {
             ReaderFault::Short => 1,
             ReaderFault::UnknownMark => 2,
             ReaderFault::UnknownLetter => 3,

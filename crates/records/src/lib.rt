@@ -3,5 +3,6 @@
 
 pub mod fault;
 pub mod letter;
+mod part;
 pub mod reader;
 pub mod record;

@@ -1,28 +1,44 @@
 // The records of a file, each read whole.
-ghost use Rattle.std.specs.Prelude.{◌≡◌, ◌<◌, map};
+ghost use Rattle.std.specs.Prelude.{◌≡◌, slice_index};
 ghost use Rattle.records.specs.Fields.{read_word, read_in};
-ghost use Rattle.records.specs.Records.{Reads, expect, is_element, is_tally, mark_of, read_element, read_elements, read_judge, read_mark, read_name, read_record, read_rule, read_tallies, read_tally, record_of, repeated};
+ghost use Rattle.records.specs.Records.{Reads, expect, mark_of, read_element, read_judge, read_mark, read_name, read_record, read_rule, read_tally, record_of, same_mark};
+ghost use Rattle.records.specs.declared.fault.ReaderFault.TheVariants.{TooManyElements, TooManyTallies};
 ghost use Rattle.rules.specs.Views.{element_of, rule_of, tally_of};
+ghost use Rattle.theory.specs.Rules.{Element as element, Tally as tally};
 
 use crate::fault::ReaderFault;
-use crate::letter::{ReadingName, reading_named};
+use crate::letter::ReadingName;
+use crate::part::Part;
 use crate::reader::Reader;
-use rules::{Element, Relation, Rule, Sign, Tally};
+use rules::{Element, MAX_ELEMENTS, MAX_TALLIES, Relation, Rule, Sign, Tally};
 use sets::AtomSet;
 use std::alloc::Global;
 
-const MAX_TALLIES: u8 = 2;
-
-const MAX_ELEMENTS: u8 = 12;
-
 /// The two bytes that a record, or a part of a rule, begins with.
-#[derive(Clone, Copy)]
+#[derive(Clone, Copy, Debug, PartialEq, Eq)]
 pub enum Mark {
     Name,
     Rule,
     Tally,
     Element,
     Judge,
+}
+
+impl TryFrom<[u8; 2]> for Mark {
+    type Error = ReaderFault;
+
+    ghost try_from_gives = { λ bytes answer. answer ≡ mark_of (slice_index bytes 0) (slice_index bytes 1) };
+
+    fn try_from(bytes: [u8; 2]) -> Result<Mark, ReaderFault> {
+        match &bytes {
+            b"NA" => Ok(Mark::Name),
+            b"RU" => Ok(Mark::Rule),
+            b"TA" => Ok(Mark::Tally),
+            b"EL" => Ok(Mark::Element),
+            b"JU" => Ok(Mark::Judge),
+            _ => Err(ReaderFault::UnknownMark),
+        }
+    }
 }
 
 /// A record, as it was written.
@@ -33,16 +49,59 @@ pub enum Record<'a> {
     Judge(ReadingName, AtomSet),
 }
 
-fn marked(first: u8, second: u8) -> Result<Mark, ReaderFault>
-    ensures { result ≡ mark_of first second }
-{
-    match (first, second) {
-        (b'N', b'A') => Ok(Mark::Name),
-        (b'R', b'U') => Ok(Mark::Rule),
-        (b'T', b'A') => Ok(Mark::Tally),
-        (b'E', b'L') => Ok(Mark::Element),
-        (b'J', b'U') => Ok(Mark::Judge),
-        _ => Err(ReaderFault::UnknownMark),
+impl Part for Element {
+    const MOST: u8 = MAX_ELEMENTS;
+
+    ghost MOST = { 12 };
+
+    const TOO_MANY: ReaderFault = ReaderFault::TooManyElements;
+
+    ghost TOO_MANY = { TooManyElements };
+
+    ghost Means = { element };
+
+    ghost view = { element_of };
+
+    ghost reads = { read_element };
+
+    fn read(reader: &mut Reader<'_>, _heap: Global) -> Result<Element, ReaderFault> {
+        reader.expect(Mark::Element)?;
+        let ins = reader.set()?;
+        let outs = reader.set()?;
+        let weight = reader.signed()?;
+        Ok(Element { ins, outs, weight })
+    }
+}
+
+impl Part for Tally {
+    const MOST: u8 = MAX_TALLIES;
+
+    ghost MOST = { 2 };
+
+    const TOO_MANY: ReaderFault = ReaderFault::TooManyTallies;
+
+    ghost TOO_MANY = { TooManyTallies };
+
+    ghost Means = { tally };
+
+    ghost view = { tally_of };
+
+    ghost reads = { read_tally };
+
+    fn read(reader: &mut Reader<'_>, heap: Global) -> Result<Tally, ReaderFault> {
+        reader.expect(Mark::Tally)?;
+        let kind = reader.byte()?;
+        let relation = reader.byte()?;
+        let sign = reader.byte()?;
+        let bound = reader.signed()?;
+        let elements = reader.parts(heap)?;
+        Ok(Tally {
+            kind,
+            relation: Relation::from(relation),
+            sign: Sign::from(sign),
+            bound,
+            elements,
+        })
     }
 }
 
@@ -50,104 +109,24 @@ impl<'a> Reader<'a> {
     fn mark(&mut self) -> Result<Mark, ReaderFault>
         ensures { read_in (λ m. m) result self.new.rest.now ≡ read_mark self.old.rest.now }
     {
-        let field = self.slice(2)?;
-        marked(field[0], field[1])
+        Mark::try_from(self.array()?)
     }
 
-    fn tally_mark(&mut self) -> Result<(), ReaderFault>
-        ensures { read_in (λ m. m) result self.new.rest.now ≡ expect is_tally self.old.rest.now }
+    // The mark that is due here.
+    fn expect(&mut self, wanted: Mark) -> Result<(), ReaderFault>
+        ensures { read_in (λ m. m) result self.new.rest.now ≡ expect (same_mark wanted) self.old.rest.now }
     {
-        match self.mark()? {
-            Mark::Tally => Ok(()),
-            _ => Err(ReaderFault::UnknownMark),
-        }
-    }
-
-    fn element_mark(&mut self) -> Result<(), ReaderFault>
-        ensures { read_in (λ m. m) result self.new.rest.now ≡ expect is_element self.old.rest.now }
-    {
-        match self.mark()? {
-            Mark::Element => Ok(()),
-            _ => Err(ReaderFault::UnknownMark),
+        if self.mark()? == wanted {
+            Ok(())
+        } else {
+            Err(ReaderFault::UnknownMark)
         }
     }
 
     fn set(&mut self) -> Result<AtomSet, ReaderFault>
         ensures { read_in (λ s. s.0) result self.new.rest.now ≡ read_word self.old.rest.now }
     {
-        let bits = self.word()?;
-        Ok(AtomSet(bits))
-    }
-
-    fn element(&mut self) -> Result<Element, ReaderFault>
-        ensures { read_in element_of result self.new.rest.now ≡ read_element self.old.rest.now }
-    {
-        self.element_mark()?;
-        let ins = self.set()?;
-        let outs = self.set()?;
-        let weight = self.signed()?;
-        Ok(Element { ins, outs, weight })
-    }
-
-    // This many elements; room for them is asked for first.
-    fn counted_elements(&mut self, heap: Global, count: u8) -> Result<Vec<Element>, ReaderFault>
-        ensures { Reads (λ v. map element_of v.items) result self.new.rest.now (repeated read_element count self.old.rest.now) }
-    {
-        let mut elements = Vec::with_capacity(heap, count as usize)?;
-        for _ in 0..count {
-            let element = self.element()?;
-            elements.push_reserved(element);
-        }
-        Ok(elements)
-    }
-
-    fn elements(&mut self, heap: Global) -> Result<Vec<Element>, ReaderFault>
-        ensures { Reads (λ v. map element_of v.items) result self.new.rest.now (read_elements self.old.rest.now) }
-    {
-        let count = self.byte()?;
-        if count > MAX_ELEMENTS {
-            return Err(ReaderFault::TooManyElements);
-        }
-        self.counted_elements(heap, count)
-    }
-
-    fn tally(&mut self, heap: Global) -> Result<Tally, ReaderFault>
-        ensures { Reads tally_of result self.new.rest.now (read_tally self.old.rest.now) }
-    {
-        self.tally_mark()?;
-        let kind = self.byte()?;
-        let relation = self.byte()?;
-        let sign = self.byte()?;
-        let bound = self.signed()?;
-        let elements = self.elements(heap)?;
-        Ok(Tally {
-            kind,
-            relation: Relation::from_code(relation),
-            sign: Sign::from_code(sign),
-            bound,
-            elements,
-        })
-    }
-
-    fn counted_tallies(&mut self, heap: Global, count: u8) -> Result<Vec<Tally>, ReaderFault>
-        ensures { Reads (λ v. map tally_of v.items) result self.new.rest.now (repeated read_tally count self.old.rest.now) }
-    {
-        let mut tallies = Vec::with_capacity(heap, count as usize)?;
-        for _ in 0..count {
-            let tally = self.tally(heap)?;
-            tallies.push_reserved(tally);
-        }
-        Ok(tallies)
-    }
-
-    fn tallies(&mut self, heap: Global) -> Result<Vec<Tally>, ReaderFault>
-        ensures { Reads (λ v. map tally_of v.items) result self.new.rest.now (read_tallies self.old.rest.now) }
-    {
-        let count = self.byte()?;
-        if count > MAX_TALLIES {
-            return Err(ReaderFault::TooManyTallies);
-        }
-        self.counted_tallies(heap, count)
+        Ok(AtomSet(self.word()?))
     }
 
     fn rule(&mut self, heap: Global) -> Result<Rule, ReaderFault>
@@ -156,7 +135,7 @@ impl<'a> Reader<'a> {
         let head = self.set()?;
         let must = self.set()?;
         let must_not = self.set()?;
-        let tallies = self.tallies(heap)?;
+        let tallies = self.parts(heap)?;
         Ok(Rule {
             head,
             must,
@@ -169,14 +148,13 @@ impl<'a> Reader<'a> {
         ensures { read_in (λ s. s.now) result self.new.rest.now ≡ read_name self.old.rest.now }
     {
         let size = self.byte()?;
-        self.slice(size as usize)
+        self.slice(usize::from(size))
     }
 
     fn judge(&mut self) -> Result<Record<'a>, ReaderFault>
         ensures { read_in record_of result self.new.rest.now ≡ read_judge self.old.rest.now }
     {
-        let letter = self.byte()?;
-        let reading = reading_named(letter)?;
+        let reading = ReadingName::try_from(self.byte()?)?;
         let candidate = self.set()?;
         Ok(Record::Judge(reading, candidate))
     }

@@ -13,10 +13,10 @@ use Rattle.host.proofs.linenscribe_play.Goals as goal
 
 pub returns : goal.returns
 returns c =
-    let n = c.numbers.ensures in
+    let n = c.from.ensures in
     record {
       answer =
-          answers c.numbers.result c.args.report.now c.play.new.report c.play.result.written _ n.written
+          answers c.from.result c.args.report.now c.play.new.report c.play.result.written _ n.written
           (told_below c.args.file.now (length c.args.report.now))
           c.play.result.fault c.play.ensures.plays c.play.ensures.wanting n.fault n.offset c.play.auto.report;
       line_by_line = line_by_line;
