@@ -1,3 +1,2 @@
 pub mod Sums
-pub mod Facts
-pub mod Turns
+pub mod Places

@@ -1,2 +1,1 @@
-pub mod Totals
 pub mod Answers

@@ -1,30 +1,29 @@
 // Judging a candidate: the first rule that it breaks, else the lowest proper subset that satisfies the reduct.
 #![tactic(auto)]
 
-ghost use Rattle.judging.specs.Answers.{judge_answer_of, verdict_of};
-ghost use Rattle.rules.specs.Fits.{fit_rules};
+ghost use Rattle.judging.specs.Answers.{judge_answer_of};
 ghost use Rattle.plans.specs.PlanView.{plan_of};
-ghost use Rattle.rules.specs.Views.{rules_of};
 ghost use Rattle.theory.specs.Calls.{judge_answer};
-ghost use Rattle.theory.specs.Verdicts.{verdict};
-ghost use Rattle.std.specs.Prelude.{◌≡◌, ◌≤◌, true, length};
+ghost use Rattle.std.specs.Prelude.{◌≡◌};
 
 use banks::Bank;
+use cases::Case;
 use plans::plan::Plan;
 use plans::refusal::Refusal;
 use readings::Reading;
-use rules::Rule;
 use sets::AtomSet;
 
 mod bodies;
+mod cases;
 mod reducts;
+mod tallies;
 mod totals;
 
 /// The most marks that a candidate may have.
 const MAX_MARKS: u32 = 20;
 
 /// What is said of a candidate.
-#[derive(Clone, Copy)]
+#[derive(Clone, Copy, Debug, PartialEq, Eq)]
 pub enum Verdict {
     /// The first place, counted from 1, whose rule the candidate does not hold.
     Broken(u8),
@@ -32,20 +31,6 @@ pub enum Verdict {
     Smaller(AtomSet),
     /// The candidate holds every rule, and no proper subset satisfies the reduct.
     Stable,
-}
-
-fn found<B: Bank, R: Reading>(bank: &B, reading: &R, candidate: AtomSet, rules: &[Rule]) -> Verdict
-    requires few { length rules.now ≤ 64 }
-    requires fit { fit_rules (rules_of rules.now) ≡ true }
-    ensures { verdict_of result ≡ verdict (B.meaning bank.now) (R.meaning reading.now) (rules_of rules.now) candidate.0 }
-{
-    if let Some(place) = bodies::first_broken_place(bank, candidate, rules) {
-        return Verdict::Broken(place);
-    }
-    match reducts::lowest_satisfying(bank, reading, candidate, rules) {
-        Some(subset) => Verdict::Smaller(subset),
-        None => Verdict::Stable,
-    }
 }
 
 /// The verdict on a candidate, under a reading: exactly that of the definition. It does not allocate.
@@ -62,5 +47,11 @@ pub fn judge<B: Bank, R: Reading>(
     if candidate.0.count_ones() > MAX_MARKS {
         return Err(Refusal::TooManyMarks);
     }
-    Ok(found(plan.bank(), reading, candidate, plan.rules()))
+    let case = Case {
+        bank: plan.bank(),
+        reading,
+        candidate,
+        rules: plan.rules(),
+    };
+    Ok(case.verdict())
 }

@@ -1,107 +1,54 @@
-// Which subsets of a candidate satisfy its reduct, and the lowest of them.
-ghost use Rattle.judging.specs.Answers.{set_in};
-ghost use Rattle.rules.specs.Fits.{fit_rule, fit_rules, fit_tally};
-ghost use Rattle.rules.specs.Views.{rule_of, rules_of, tally_of};
-ghost use Rattle.theory.specs.Lists.{every};
-ghost use Rattle.theory.specs.Sets.{contains};
-ghost use Rattle.theory.specs.Verdicts.{lowest_inside, passed, satisfies, satisfies_rule};
-ghost use Rattle.std.specs.Prelude.{◌≡◌, true, map};
+// When a subset of a candidate satisfies the candidate's reduct.
+ghost use Rattle.std.specs.Prelude.{◌≡◌};
+ghost use Rattle.rules.specs.Kept.{rules_of};
+ghost use Rattle.rules.specs.Views.{rule_of};
+ghost use Rattle.theory.specs.Verdicts.{passed, satisfies, satisfies_rule};
 
-use crate::bodies::{body_holds, plainly_holds};
-use crate::totals::relation_holds;
+use crate::bodies::Plain;
+use crate::tallies::{TallyTest, every_tally};
+use crate::totals::Seen;
 use banks::Bank;
 use readings::Reading;
-use rules::{Rule, Tally};
-use sets::AtomSet;
+use rules::{FitRule, Tally};
 
-fn tally_passes<B: Bank, R: Reading>(
-    bank: &B,
-    reading: &R,
-    candidate: AtomSet,
-    subset: AtomSet,
-    tally: &Tally,
-) -> bool
-    requires inside { contains candidate.0 subset.0 ≡ true }
-    requires fit { fit_tally (tally_of tally.now) ≡ true }
-    ensures { result ≡ passed (B.meaning bank.now) (R.meaning reading.now) candidate.0 subset.0 (tally_of tally.now) }
-{
-    let for_candidate = plainly_holds(bank, candidate, tally);
-    let for_subset = relation_holds(bank, reading, candidate, subset, tally);
-    reading.passes(tally.sign.is_negated(), for_candidate, for_subset)
+/// A tally passes as the reading says, from the two facts.
+impl<B: Bank, R: Reading> TallyTest for Seen<'_, B, R> {
+    ghost test = { λ s. passed (B.meaning s.bank.now) (R.meaning s.reading.now) s.at.candidate.0 s.at.subset.0 };
+
+    fn passes(&self, tally: &Tally) -> bool {
+        let for_candidate = self.candidate().relation_holds(tally);
+        let for_subset = self.relation_holds(tally);
+        self.reading
+            .passes(tally.sign.is_negated(), for_candidate, for_subset)
+    }
 }
 
-fn all_pass<B: Bank, R: Reading>(
-    bank: &B,
-    reading: &R,
-    candidate: AtomSet,
-    subset: AtomSet,
-    tallies: &[Tally],
-) -> bool
-    requires inside { contains candidate.0 subset.0 ≡ true }
-    requires fit { every fit_tally (map tally_of tallies.now) ≡ true }
-    ensures { result ≡ every (passed (B.meaning bank.now) (R.meaning reading.now) candidate.0 subset.0) (map tally_of tallies.now) }
-{
-    for tally in tallies {
-        if !tally_passes(bank, reading, candidate, subset, tally) {
-            return false;
+impl<'a, B: Bank, R: Reading> Seen<'a, B, R> {
+    // The candidate, as the plain definition sees it.
+    fn candidate(&self) -> Plain<'a, B>
+        ensures bank { result.bank.now ≡ self.now.bank.now }
+        ensures set { result.set ≡ self.now.at.candidate }
+    {
+        Plain {
+            bank: self.bank,
+            set: self.at.candidate,
         }
     }
-    true
-}
 
-// The cheap tests come first.
-fn rule_satisfied<B: Bank, R: Reading>(
-    bank: &B,
-    reading: &R,
-    candidate: AtomSet,
-    subset: AtomSet,
-    rule: &Rule,
-) -> bool
-    requires inside { contains candidate.0 subset.0 ≡ true }
-    requires fit { fit_rule (rule_of rule.now) ≡ true }
-    ensures { result ≡ satisfies_rule (B.meaning bank.now) (R.meaning reading.now) candidate.0 subset.0 (rule_of rule.now) }
-{
-    !subset.contains(rule.must)
-        || !subset.misses(rule.head)
-        || !all_pass(bank, reading, candidate, subset, rule.tallies.as_slice())
-        || !body_holds(bank, candidate, rule)
-}
-
-fn reduct_satisfied<B: Bank, R: Reading>(
-    bank: &B,
-    reading: &R,
-    candidate: AtomSet,
-    subset: AtomSet,
-    rules: &[Rule],
-) -> bool
-    requires inside { contains candidate.0 subset.0 ≡ true }
-    requires fit { fit_rules (rules_of rules.now) ≡ true }
-    ensures { result ≡ satisfies (B.meaning bank.now) (R.meaning reading.now) (rules_of rules.now) candidate.0 subset.0 }
-{
-    for rule in rules {
-        if !rule_satisfied(bank, reading, candidate, subset, rule) {
-            return false;
-        }
+    // Whether the subset satisfies the rule in the reduct. The cheap tests come first.
+    fn satisfies_rule(&self, kept: &FitRule) -> bool
+        ensures { result ≡ satisfies_rule (B.meaning self.now.bank.now) (R.meaning self.now.reading.now) self.now.at.candidate.0 self.now.at.subset.0 (rule_of kept.now.rule) }
+    {
+        !self.at.subset.contains(kept.rule.must)
+            || !self.at.subset.misses(kept.rule.head)
+            || !every_tally(self, kept)
+            || !self.candidate().holds_body(kept)
     }
-    true
-}
 
-/// The lowest number among the proper subsets of the candidate that satisfy the reduct.
-pub fn lowest_satisfying<B: Bank, R: Reading>(
-    bank: &B,
-    reading: &R,
-    candidate: AtomSet,
-    rules: &[Rule],
-) -> Option<AtomSet>
-    requires { fit_rules (rules_of rules.now) ≡ true }
-    ensures { set_in result ≡ lowest_inside (B.meaning bank.now) (R.meaning reading.now) (rules_of rules.now) candidate.0 }
-{
-    let mut subset = AtomSet(0);
-    while subset.0 != candidate.0 {
-        if reduct_satisfied(bank, reading, candidate, subset, rules) {
-            return Some(subset);
-        }
-        subset = subset.next_inside(candidate);
+    /// Whether the subset satisfies the reduct of the rules at the candidate.
+    pub fn satisfies(&self, rules: &[FitRule]) -> bool
+        ensures { result ≡ satisfies (B.meaning self.now.bank.now) (R.meaning self.now.reading.now) (rules_of rules.now) self.now.at.candidate.0 self.now.at.subset.0 }
+    {
+        rules.iter().all(|kept| self.satisfies_rule(kept))
     }
-    None
 }

@@ -1,90 +1,84 @@
 -- Places, which count from 1, and indices, which count from 0.
-use Rattle.std.proofs.Common.{◌≡◌, ℕ, zero, suc, ◌-◌, ◌<◌, ◌≤◌, Bool, true, false, cond, leb, List, [], ◌∷◌, ◌++◌, map, length, get_or, take, drop, set, Some, None, Option, sym, refl, ap, ◌∙◌, le_of_suc-le-suc, arith}
+use Rattle.std.proofs.Common.{◌≡◌, ℕ, zero, suc, ◌-◌, ◌<◌, ◌≤◌, Bool, true, false, cond, leb, List, [], ◌∷◌, map, length, get_or, set, Some, None, sym, refl, ap, ◌∙◌, le_of_suc-le-suc, arith}
 use Rattle.std.proofs.lemmas.Bool.{leb-true, and_parts, and_from}
 use Rattle.std.proofs.lemmas.Bool.Decides.{nat_tests}
-use Rattle.std.proofs.lemmas.List.{map-set, set-get_or, get_or-map, length-map}
+use Rattle.std.specs.List.{list_all}
 use Rattle.theory.specs.Calls.{between, at_place, changed_at}
-use Rattle.theory.specs.Lists.{every}
 use Rattle.plans.specs.Places.{index_of}
 
--- what stands at an index stands at the place after it
-pub place_found : {A : Type 0} (xs : List A) (i : ℕ) (d : A) → i < length xs → at_place (suc i) xs ≡ Some (get_or xs i d)
-place_found [] i d h = absurd (omega arith)
-place_found (x ∷ xs) zero d h = refl
-place_found (x ∷ xs) (suc i) d h = place_found xs i d (le_of_suc-le-suc h)
+module _ {X : Type 0} (xs : List X) (place len : ℕ) (same : length xs ≡ len) where
+  -- an index tells the place, and that it is there
+  pub index_there : (i : ℕ) → index_of place len ≡ Some i → (place ≡ suc i) × (i < length xs)
+  index_there i e = by (between 1 len place) refl e
+    where
+      by : (b : Bool) → between 1 len place ≡ b → cond b (Some (place - 1)) None ≡ Some i → (place ≡ suc i) × (i < length xs)
+      by true t h =
+          let at : place - 1 ≡ i = cc in
+          let p = and_parts (leb 1 place) (leb place len) t in
+          let low = leb-true 1 place p.0 in
+          let high = leb-true place len p.1 in (omega arith, omega arith)
+      by false t h = absurd cc
 
-pub place_some : {A : Type 0} (xs : List A) (i : ℕ) → i < length xs → (x : A) × (at_place (suc i) xs ≡ Some x)
-place_some [] i h = absurd (omega arith)
-place_some (x ∷ xs) zero h = (x, refl)
-place_some (x ∷ xs) (suc i) h = place_some xs i (le_of_suc-le-suc h)
+  -- no index tells that nothing stands there
+  pub index_missing : {A : Type 0} (view : X → A) → index_of place len ≡ None → at_place place (map view xs) ≡ None
+  index_missing view e = by place (between 1 len place) refl e
+    where
+      past : (ys : List X) (k : ℕ) → length ys ≤ k → at_place (suc k) (map view ys) ≡ None
+      past [] k h = refl
+      past (y ∷ ys) zero h = absurd (omega arith)
+      past (y ∷ ys) (suc k) h = past ys k (le_of_suc-le-suc h)
 
-pub changed_set : {A : Type 0} (f : A → A) (xs : List A) (i : ℕ) (d : A) → i < length xs → changed_at f (suc i) xs ≡ set xs i (f (get_or xs i d))
-changed_set f [] i d h = absurd (omega arith)
-changed_set f (x ∷ xs) zero d h = refl
-changed_set {A} f (x ∷ xs) (suc i) d h = ap (λ (ys : List A). x ∷ ys) (changed_set f xs i d (le_of_suc-le-suc h))
+      by : (n : ℕ) (b : Bool) → between 1 len n ≡ b → cond b (Some (n - 1)) None ≡ None → at_place n (map view xs) ≡ None
+      by zero b t h = refl
+      by (suc n) true t h = absurd cc
+      by (suc n) false t h = past xs n (grind (arith, nat_tests))
 
--- nothing stands past the end, nor at 0
-none_past : {A : Type 0} (xs : List A) (n : ℕ) → length xs ≤ n → at_place (suc n) xs ≡ None
-none_past [] n h = refl
-none_past (x ∷ xs) zero h = absurd (omega arith)
-none_past (x ∷ xs) (suc n) h = none_past xs n (le_of_suc-le-suc h)
-
--- an index tells the place, and that it is there
-pub index_there : (place len i : ℕ) → index_of place len ≡ Some i → (place ≡ suc i) × (i < len)
-index_there place len i e = by (between 1 len place) refl e
+-- something stands at a place that is there
+pub place_some : {X A : Type 0} (view : X → A) (xs : List X) (place i : ℕ) → place ≡ suc i → i < length xs → (a : A) × (at_place place (map view xs) ≡ Some a)
+place_some {X} {A} view xs place i at within = let p = by xs i within in (p.0, ap (λ (n : ℕ). at_place n (map view xs)) at ∙ p.1)
   where
-    by : (b : Bool) → between 1 len place ≡ b → cond b (Some (place - 1)) None ≡ Some i → (place ≡ suc i) × (i < len)
-    by true t h =
-        let same : place - 1 ≡ i = ap (λ (o : Option ℕ). elim o [ Some n ↦ n | None ↦ 0 ]) h in
-        let p = and_parts (leb 1 place) (leb place len) t in
-        let low = leb-true 1 place p.0 in
-        let high = leb-true place len p.1 in (omega arith, omega arith)
-    by false t h = let z : ◌≡◌ {A = ℕ} 0 1 = ap (λ (o : Option ℕ). elim o [ Some n ↦ 1 | None ↦ 0 ]) h in absurd (omega arith)
-
-pub index_missing : {A : Type 0} (xs : List A) (place len : ℕ) → length xs ≡ len → index_of place len ≡ None → at_place place xs ≡ None
-index_missing xs zero len same e = refl
-index_missing xs (suc n) len same e = by (between 1 len (suc n)) refl e
-  where
-    by : (b : Bool) → between 1 len (suc n) ≡ b → cond b (Some (suc n - 1)) None ≡ None → at_place (suc n) xs ≡ None
-    by true t h = let z : ◌≡◌ {A = ℕ} 0 1 = ap (λ (o : Option ℕ). elim o [ Some m ↦ 0 | None ↦ 1 ]) h in absurd (omega arith)
-    by false t h = none_past xs n (grind (arith, nat_tests))
+    by : (ys : List X) (k : ℕ) → k < length ys → (a : A) × (at_place (suc k) (map view ys) ≡ Some a)
+    by [] k h = absurd (omega arith)
+    by (y ∷ ys) zero h = (view y, refl)
+    by (y ∷ ys) (suc k) h = by ys k (le_of_suc-le-suc h)
 
 -- an item that is lent, seen through a view
-module _ {X A : Type 0} (view : X → A) (xs : List X) (i : ℕ) (x : X) (within : i < length xs) (is : x ≡ get_or xs i x) where
-  pub seen_at : at_place (suc i) (map view xs) ≡ Some (view x)
-  seen_at =
-      let l = length-map xs view in
-      place_found (map view xs) i (view x) (omega arith) ∙ ap (λ (a : A). Some a) (get_or-map view xs i x (view x) within ∙ ap view (sym is))
+module _ {X A : Type 0} (view : X → A) (xs : List X) (place i : ℕ) (x : X) (at : place ≡ suc i) (within : i < length xs) (is : x ≡ get_or xs i x) where
+  pub lent_found : at_place place (map view xs) ≡ Some (view x)
+  lent_found = ap (λ (n : ℕ). at_place n (map view xs)) at ∙ by xs i within ∙ ap (λ (z : X). Some (view z)) (sym is)
+    where
+      by : (ys : List X) (k : ℕ) → k < length ys → at_place (suc k) (map view ys) ≡ Some (view (get_or ys k x))
+      by [] k h = absurd (omega arith)
+      by (y ∷ ys) zero h = refl
+      by (y ∷ ys) (suc k) h = by ys k (le_of_suc-le-suc h)
 
-  pub seen_same : (y : X) → view y ≡ view x → map view (set xs i y) ≡ map view xs
-  seen_same y e = map-set view xs i y ∙ ap (set (map view xs) i) (e ∙ ap view is) ∙ sym (map-set view xs i (get_or xs i x)) ∙ ap (map view) (set-get_or xs i x)
+  pub lent_same : (y : X) → view y ≡ view x → map view (set xs i y) ≡ map view xs
+  lent_same y e = by xs i within (e ∙ ap view is)
+    where
+      by : (ys : List X) (k : ℕ) → k < length ys → view y ≡ view (get_or ys k x) → map view (set ys k y) ≡ map view ys
+      by [] k h same = absurd (omega arith)
+      by (z ∷ ys) zero h same = ap (λ (a : A). a ∷ map view ys) same
+      by (z ∷ ys) (suc k) h same = ap (λ (rest : List A). view z ∷ rest) (by ys k (le_of_suc-le-suc h) same)
 
-  pub seen_changed : (f : A → A) (y : X) → view y ≡ f (view x) → map view (set xs i y) ≡ changed_at f (suc i) (map view xs)
-  seen_changed f y e =
-      let l = length-map xs view in
-      map-set view xs i y
-      ∙ ap (set (map view xs) i) (e ∙ ap f (ap view is ∙ sym (get_or-map view xs i x (view x) within)))
-      ∙ sym (changed_set f (map view xs) i (view x) (omega arith))
+  pub lent_changed : (f : A → A) (y : X) → view y ≡ f (view x) → map view (set xs i y) ≡ changed_at f place (map view xs)
+  lent_changed f y e = by xs i within (e ∙ ap (λ (z : X). f (view z)) is) ∙ ap (λ (n : ℕ). changed_at f n (map view xs)) (sym at)
+    where
+      by : (ys : List X) (k : ℕ) → k < length ys → view y ≡ f (view (get_or ys k x)) → map view (set ys k y) ≡ changed_at f (suc k) (map view ys)
+      by [] k h same = absurd (omega arith)
+      by (z ∷ ys) zero h same = ap (λ (a : A). a ∷ map view ys) same
+      by (z ∷ ys) (suc k) h same = ap (λ (rest : List A). view z ∷ rest) (by ys k (le_of_suc-le-suc h) same)
 
 -- what every one passes, and no change spoils, every one passes then
-pub every_changed : {A : Type 0} (p : A → Bool) (f : A → A) → ((x : A) → p x ≡ true → p (f x) ≡ true) → (n : ℕ) (xs : List A) → every p xs ≡ true → every p (changed_at f n xs) ≡ true
-every_changed p f keeps zero xs h = h
-every_changed p f keeps (suc n) [] h = h
-every_changed p f keeps (suc zero) (x ∷ xs) h =
-    let q = and_parts (p x) (every p xs) h in and_from (p (f x)) (every p xs) (keeps x q.0) q.1
-every_changed p f keeps (suc (suc n)) (x ∷ xs) h =
-    let q = and_parts (p x) (every p xs) h in and_from (p x) (every p (changed_at f (suc n) xs)) q.0 (every_changed p f keeps (suc n) xs q.1)
+pub all_changed : {A : Type 0} (p : A → Bool) (f : A → A) → ((x : A) → p x ≡ true → p (f x) ≡ true) → (n : ℕ) (xs : List A) → list_all p xs ≡ true → list_all p (changed_at f n xs) ≡ true
+all_changed p f keeps zero xs h = h
+all_changed p f keeps (suc n) [] h = h
+all_changed p f keeps (suc zero) (x ∷ xs) h =
+    let q = and_parts (p x) (list_all p xs) h in and_from (p (f x)) (list_all p xs) (keeps x q.0) q.1
+all_changed p f keeps (suc (suc n)) (x ∷ xs) h =
+    let q = and_parts (p x) (list_all p xs) h in and_from (p x) (list_all p (changed_at f (suc n) xs)) q.0 (all_changed p f keeps (suc n) xs q.1)
 
 pub length_changed : {A : Type 0} (f : A → A) (n : ℕ) (xs : List A) → length (changed_at f n xs) ≡ length xs
 length_changed f zero xs = refl
 length_changed f (suc n) [] = refl
 length_changed f (suc zero) (x ∷ xs) = refl
 length_changed f (suc (suc n)) (x ∷ xs) = let e = length_changed f (suc n) xs in omega arith
-
--- what every one passes, those without the one at an index pass
-pub every_without : {A : Type 0} (p : A → Bool) (i : ℕ) (xs : List A) → every p xs ≡ true → every p (take i xs ++ drop (suc i) xs) ≡ true
-every_without p zero [] h = h
-every_without p zero (x ∷ xs) h = (and_parts (p x) (every p xs) h).1
-every_without p (suc i) [] h = h
-every_without p (suc i) (x ∷ xs) h =
-    let q = and_parts (p x) (every p xs) h in and_from (p x) (every p (take i xs ++ drop (suc i) xs)) q.0 (every_without p i xs q.1)

@@ -1,3 +1,4 @@
 pub mod Refusals
 pub mod PlanView
 pub mod Places
+pub mod Tests

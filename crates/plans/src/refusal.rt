@@ -1,10 +1,11 @@
 // Why a call of a plan is refused.
-ghost use Rattle.plans.specs.Refusals.{refusal_of};
+ghost use Rattle.plans.specs.Refusals.{element_place, refusal_of, tally_place};
+ghost use Rattle.plans.specs.declared.refusal.Place.TheVariants.{Rule};
 ghost use Rattle.theory.specs.Calls.{number};
 ghost use Rattle.std.specs.Prelude.{◌≡◌};
 
 /// The reason for a refusal.
-#[derive(Clone, Copy)]
+#[derive(Clone, Copy, Debug, PartialEq, Eq)]
 pub enum Refusal {
     /// A name of no byte or of more than 16.
     NameLength,
@@ -38,19 +39,18 @@ pub enum Refusal {
     TooManyMarks,
 }
 
-impl Refusal {
-    /// The refusal's number in reports.
-    pub fn number(self) -> u8
-        ensures { result ≡ number (refusal_of self) }
-    {
-        match self {
+/// The refusal's number in reports.
+impl From<Refusal> for u8 {
+    ghost from_gives = { λ f n. n ≡ number (refusal_of f) };
+
+    fn from(refusal: Refusal) -> u8 {
+        match refusal {
             Refusal::NameLength => 4,
             Refusal::NameByte => 5,
             Refusal::NoKind => 6,
             Refusal::NoRelation => 7,
             Refusal::NoSign => 8,
-            Refusal::TooManyTallies => 9,
-            Refusal::TooManyElements => 9,
+            Refusal::TooManyTallies | Refusal::TooManyElements => 9,
             Refusal::HeavyWeight => 10,
             Refusal::FarBound => 11,
             Refusal::NameBorne => 20,
@@ -63,24 +63,43 @@ impl Refusal {
     }
 }
 
-/// A refusal of a rule, with the places of the tally and of the element that were being tested: they count from 1,
-/// and 0 says that none was.
-#[derive(Clone, Copy)]
-pub struct Refused {
-    pub refusal: Refusal,
-    pub tally: u8,
-    pub element: u8,
+/// What of a rule was being tested, by the places of the tally and of the element, which count from 1.
+#[derive(Clone, Copy, Debug, PartialEq, Eq)]
+pub enum Place {
+    Rule,
+    Tally { tally: u8 },
+    Element { tally: u8, element: u8 },
 }
 
-/// A refusal that tells no places.
+impl Place {
+    /// The places of the tally and of the element in reports, where 0 says that none was being tested.
+    pub fn numbers(self) -> (u8, u8)
+        ensures tally { result.0 ≡ tally_place self }
+        ensures element { result.1 ≡ element_place self }
+    {
+        match self {
+            Place::Rule => (0, 0),
+            Place::Tally { tally } => (tally, 0),
+            Place::Element { tally, element } => (tally, element),
+        }
+    }
+}
+
+/// A refusal of a rule, and what of it was being tested.
+#[derive(Clone, Copy, Debug, PartialEq, Eq)]
+pub struct Refused {
+    pub refusal: Refusal,
+    pub place: Place,
+}
+
+/// A refusal while neither a tally nor an element was being tested.
 impl From<Refusal> for Refused {
-    ghost from_gives = { λ f r. r ≡ record { refusal = f; tally = 0; element = 0 } };
+    ghost from_gives = { λ f r. r ≡ record { refusal = f; place = Rule } };
 
     fn from(refusal: Refusal) -> Refused {
         Refused {
             refusal,
-            tally: 0,
-            element: 0,
+            place: Place::Rule,
         }
     }
 }

@@ -1,16 +1,16 @@
 // The calls of a plan: making it, name, enter, withdraw, reweigh, and looking at what it holds.
-ghost use Rattle.std.specs.Prelude.{◌≡◌, ◌≤◌, true, length, IfOk};
-ghost use Rattle.rules.specs.Fits.{fit_rules};
+ghost use Rattle.std.specs.Prelude.{◌≡◌, ◌≤◌, length, IfOk};
 ghost use Rattle.plans.specs.PlanView.{plan_of};
 ghost use Rattle.plans.specs.Refusals.{edit_answer_of, enter_answer_of, name_answer_of};
-ghost use Rattle.rules.specs.Views.{rule_of, rules_of};
+ghost use Rattle.rules.specs.Kept.{rules_of};
+ghost use Rattle.rules.specs.Views.{rule_of};
 ghost use Rattle.theory.specs.Calls.{after_enter, after_name, after_reweigh, after_withdraw, enter_answer, name_answer, new_plan, reweigh_answer, withdraw_answer};
 
-use crate::plan::edits::index_of;
-use crate::plan::{MAX_ATOMS, MAX_RULES, Plan};
+use crate::plan::edits::{index_of, reweigh_element};
+use crate::plan::{Plan, Table};
 use crate::refusal::{Refusal, Refused};
 use banks::Bank;
-use rules::Rule;
+use rules::{FitRule, Rule};
 use std::alloc::{AllocError, Global};
 
 impl<B: Bank + Drop> Plan<B> {
@@ -18,9 +18,8 @@ impl<B: Bank + Drop> Plan<B> {
     pub fn new(heap: Global, bank: B) -> Result<Plan<B>, AllocError>
         ensures { IfOk result (λ p. (plan_of p ≡ new_plan) × (p.bank ≡ bank)) }
     {
-        let names = Vec::with_capacity(heap, MAX_ATOMS)?;
-        let rules = Vec::with_capacity(heap, MAX_RULES)?;
-        Ok(Plan { bank, names, rules })
+        let table = Table::new(heap)?;
+        Ok(Plan { bank, table })
     }
 }
 
@@ -31,8 +30,8 @@ impl<B: Bank> Plan<B> {
         ensures after { plan_of self.new ≡ after_name (plan_of self.old) bytes.now }
         ensures bank { self.new.bank ≡ self.old.bank }
     {
-        let name = self.check_name(bytes)?;
-        Ok(self.add_name(name))
+        let name = self.table.check_name(bytes)?;
+        Ok(self.table.add_name(name))
     }
 
     /// Puts the rule at the end, and answers its place, counted from 1.
@@ -41,8 +40,8 @@ impl<B: Bank> Plan<B> {
         ensures after { plan_of self.new ≡ after_enter (B.meaning self.old.bank) (plan_of self.old) (rule_of rule) }
         ensures bank { self.new.bank ≡ self.old.bank }
     {
-        self.check_entry(&rule)?;
-        Ok(self.add_rule(rule))
+        let kept = self.check_entry(rule)?;
+        Ok(self.table.add_rule(kept))
     }
 
     /// Takes out the rule at this place, counted from 1; later rules move up.
@@ -51,10 +50,10 @@ impl<B: Bank> Plan<B> {
         ensures after { plan_of self.new ≡ after_withdraw (plan_of self.old) place }
         ensures bank { self.new.bank ≡ self.old.bank }
     {
-        let Some(at) = index_of(place, self.rule_count()) else {
+        let Some(at) = index_of(place, self.table.rules.len()) else {
             return Err(Refusal::NoSuchPlace);
         };
-        self.remove_rule(at);
+        let _withdrawn = self.table.rules.remove(at);
         Ok(())
     }
 
@@ -64,7 +63,10 @@ impl<B: Bank> Plan<B> {
         ensures after { plan_of self.new ≡ after_reweigh (plan_of self.old) rule tally element weight }
         ensures bank { self.new.bank ≡ self.old.bank }
     {
-        self.write_weight(rule, tally, element, weight)
+        let Some(rule_at) = index_of(rule, self.table.rules.len()) else {
+            return Err(Refusal::NoSuchPlace);
+        };
+        reweigh_element(&mut self.table.rules[rule_at], tally, element, weight)
     }
 
     /// The bank that all its calls use.
@@ -78,15 +80,14 @@ impl<B: Bank> Plan<B> {
     pub fn atoms(&self) -> u8
         ensures { result ≡ length (plan_of self.now).names }
     {
-        self.atom_count()
+        self.table.names.len() as u8
     }
 
-    /// The rules in their places, at most 64; their totals stay in range.
-    pub fn rules(&self) -> &[Rule]
+    /// The rules in their places, at most 64.
+    pub fn rules(&self) -> &[FitRule]
         ensures value { rules_of result.now ≡ (plan_of self.now).rules }
         ensures few { length result.now ≤ 64 }
-        ensures fit { fit_rules (rules_of result.now) ≡ true }
     {
-        self.rules.as_slice()
+        &self.table.rules
     }
 }

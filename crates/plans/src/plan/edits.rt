@@ -1,37 +1,36 @@
-// Changes to the rules that a plan keeps: one is taken out, or one weight of one is written anew.
-ghost use Rattle.std.specs.Prelude.{◌≡◌, suc, ◌<◌, vec_len};
-ghost use Rattle.plans.specs.PlanView.{plan_of};
+// What withdraw and reweigh do to the rules that a plan keeps.
+ghost use Rattle.std.specs.Prelude.{◌≡◌};
 ghost use Rattle.plans.specs.Refusals.{edit_answer_of};
 ghost use Rattle.plans.specs.Places.{index_of};
 ghost use Rattle.rules.specs.Views.{rule_of};
-ghost use Rattle.theory.specs.Calls.{after_reweigh, element_in, left_by, reweigh_answer, reweighed_rule, unless_refused, weight_refusal, withdrawn};
+ghost use Rattle.theory.specs.Calls.{element_in, left_by, reweighed_rule, unless_refused, weight_refusal};
 
-use crate::plan::Plan;
 use crate::plan::entry::{MAX_WEIGHT, is_near};
 use crate::refusal::Refusal;
-use rules::Rule;
+use rules::FitRule;
 
 // The index of a place, which counts from 1, in a list of this length.
 pub(super) fn index_of(place: u8, len: usize) -> Option<usize>
     ensures { result ≡ index_of place len }
 {
-    let place = place as usize;
-    if place == 0 || place > len {
-        None
-    } else {
-        Some(place - 1)
-    }
+    let at = usize::from(place).checked_sub(1)?;
+    if at < len { Some(at) } else { None }
 }
 
 // One weight of a rule that is lent is written in place.
-fn reweigh_element(rule: &mut Rule, tally: u8, element: u8, weight: i32) -> Result<(), Refusal>
-    ensures answer { edit_answer_of result ≡ unless_refused (weight_refusal (element_in (rule_of rule.old) tally element) weight) tt }
-    ensures after { rule_of rule.new ≡ left_by (weight_refusal (element_in (rule_of rule.old) tally element) weight) (rule_of rule.old) (reweighed_rule tally element weight (rule_of rule.old)) }
+pub(super) fn reweigh_element(
+    kept: &mut FitRule,
+    tally: u8,
+    element: u8,
+    weight: i32,
+) -> Result<(), Refusal>
+    ensures answer { edit_answer_of result ≡ unless_refused (weight_refusal (element_in (rule_of kept.old.rule) tally element) weight) tt }
+    ensures after { rule_of kept.new.rule ≡ left_by (weight_refusal (element_in (rule_of kept.old.rule) tally element) weight) (rule_of kept.old.rule) (reweighed_rule tally element weight (rule_of kept.old.rule)) }
 {
-    let Some(tally_at) = index_of(tally, rule.tallies.len()) else {
+    let Some(tally_at) = index_of(tally, kept.rule.tallies.len()) else {
         return Err(Refusal::NoSuchPlace);
     };
-    let found = &mut rule.tallies[tally_at];
+    let found = &mut kept.rule.tallies[tally_at];
     let Some(element_at) = index_of(element, found.elements.len()) else {
         return Err(Refusal::NoSuchPlace);
     };
@@ -40,33 +39,4 @@ fn reweigh_element(rule: &mut Rule, tally: u8, element: u8, weight: i32) -> Resu
     }
     found.elements[element_at].weight = weight;
     Ok(())
-}
-
-impl<B> Plan<B> {
-    // The rule at this index goes.
-    pub(super) fn remove_rule(&mut self, at: usize)
-        requires { at < vec_len self.old.rules }
-        ensures after { plan_of self.new ≡ record { names = (plan_of self.old).names; rules = withdrawn (suc at) (plan_of self.old).rules } }
-        ensures bank { self.new.bank ≡ self.old.bank }
-    {
-        let _rule = self.rules.remove(at);
-    }
-
-    // The rule at this place is lent, and one of its weights is written.
-    pub(super) fn write_weight(
-        &mut self,
-        rule: u8,
-        tally: u8,
-        element: u8,
-        weight: i32,
-    ) -> Result<(), Refusal>
-        ensures answer { edit_answer_of result ≡ reweigh_answer (plan_of self.old) rule tally element weight }
-        ensures after { plan_of self.new ≡ after_reweigh (plan_of self.old) rule tally element weight }
-        ensures bank { self.new.bank ≡ self.old.bank }
-    {
-        let Some(rule_at) = index_of(rule, self.rules.len()) else {
-            return Err(Refusal::NoSuchPlace);
-        };
-        reweigh_element(&mut self.rules[rule_at], tally, element, weight)
-    }
 }

@@ -1,19 +1,15 @@
 // The tests that enter makes of a rule, in their order.
-ghost use Rattle.std.specs.Prelude.{◌≡◌, ◌<◌, ◌≤◌, true, map, length, vec_len, OnOk, nat_lt};
-ghost use Rattle.rules.specs.Fits.{fit_rule};
+ghost use Rattle.std.specs.Prelude.{◌≡◌, ℕ, ◌<◌, List, length, vec_len, Some, None, MatchResult};
 ghost use Rattle.plans.specs.PlanView.{plan_of};
-ghost use Rattle.plans.specs.Refusals.{refusal_in};
+ghost use Rattle.plans.specs.Refusals.{element_place, refusal_in, refused_of, tally_place};
+ghost use Rattle.plans.specs.Tests.{Gives};
 ghost use Rattle.rules.specs.Views.{element_of, rule_of, tally_of};
-ghost use Rattle.theory.specs.Calls.{at_most_from_zero, element_tests, elements_tests, enter_refusal, field_tests, first_applying, rule_tests, tallies_tests, tally_tests};
+ghost use Rattle.theory.specs.Calls.{Refused as Said, Test, at_most_from_zero, element_tests, enter_refusal, field_tests, first_applying, rule_tests, tally_tests, tests_from};
 
 use crate::plan::{MAX_RULES, Plan};
-use crate::refusal::{Refusal, Refused};
+use crate::refusal::{Place, Refusal, Refused};
 use banks::Bank;
-use rules::{Element, Rule, Tally};
-
-const MAX_TALLIES: usize = 2;
-
-const MAX_ELEMENTS: usize = 12;
+use rules::{Element, FitRule, MAX_ELEMENTS, MAX_TALLIES, Rule, Tally};
 
 const MAX_BOUND: u32 = 12_000_000;
 
@@ -26,8 +22,21 @@ pub(super) fn is_near(far: u32, value: i32) -> bool
     value.unsigned_abs() <= far
 }
 
-fn check_element(atoms: u8, element: Element, tally: u8, place: u8) -> Result<(), Refused>
-    ensures { refusal_in result ≡ first_applying (element_tests atoms tally place (element_of element)) }
+// The first refusal that the check of an item gives. It is passed the item's place, which counts from 1; those of fewer
+// than 255 items fit.
+fn check_each<T, F: Fn(&T, u8) -> Result<(), Refused>>(items: &[T], check: F) -> Result<(), Refused>
+    requires places { length items.now < 255 }
+    requires callable { F.IsAlwaysCallable check }
+    ensures { (tests : ℕ → T → List (Test Said)) → Gives (F.post check) tests → refusal_in result ≡ first_applying (tests_from tests 1 items.now) }
+{
+    for (item, place) in items.iter().zip(1..) {
+        check(item, place)?;
+    }
+    Ok(())
+}
+
+fn check_element(atoms: u8, element: &Element, place: Place) -> Result<(), Refused>
+    ensures { refusal_in result ≡ first_applying (element_tests atoms (tally_place place) (element_place place) (element_of element.now)) }
 {
     let refusal = if !(element.ins.is_within(atoms) && element.outs.is_within(atoms)) {
         Refusal::UnnamedMark
@@ -36,27 +45,7 @@ fn check_element(atoms: u8, element: Element, tally: u8, place: u8) -> Result<()
     } else {
         return Ok(());
     };
-    Err(Refused {
-        refusal,
-        tally,
-        element: place,
-    })
-}
-
-fn check_elements(atoms: u8, elements: &[Element], tally: u8) -> Result<(), Refused>
-    requires { length elements.now ≤ 12 }
-    ensures { refusal_in result ≡ first_applying (elements_tests atoms tally 1 (map element_of elements.now)) }
-{
-    for (i, element) in elements.iter().enumerate() {
-        check_element(atoms, *element, tally, i as u8 + 1)?;
-    }
-    Ok(())
-}
-
-fn has_many_elements(tally: &Tally) -> bool
-    ensures { result ≡ nat_lt 12 (length (tally_of tally.now).elements) }
-{
-    tally.elements.len() > MAX_ELEMENTS
+    Err(Refused { refusal, place })
 }
 
 // The tally's own fields.
@@ -71,15 +60,14 @@ fn check_fields<B: Bank>(bank: &B, tally: &Tally, place: u8) -> Result<(), Refus
         Refusal::NoSign
     } else if !is_near(MAX_BOUND, tally.bound) {
         Refusal::FarBound
-    } else if has_many_elements(tally) {
+    } else if tally.elements.len() > usize::from(MAX_ELEMENTS) {
         Refusal::TooManyElements
     } else {
         return Ok(());
     };
     Err(Refused {
         refusal,
-        tally: place,
-        element: 0,
+        place: Place::Tally { tally: place },
     })
 }
 
@@ -87,23 +75,16 @@ fn check_tally<B: Bank>(bank: &B, atoms: u8, tally: &Tally, place: u8) -> Result
     ensures { refusal_in result ≡ first_applying (tally_tests (B.meaning bank.now) atoms place (tally_of tally.now)) }
 {
     check_fields(bank, tally, place)?;
-    check_elements(atoms, tally.elements.as_slice(), place)
-}
-
-fn check_tallies<B: Bank>(bank: &B, atoms: u8, tallies: &[Tally]) -> Result<(), Refused>
-    requires { length tallies.now ≤ 2 }
-    ensures { refusal_in result ≡ first_applying (tallies_tests (B.meaning bank.now) atoms 1 (map tally_of tallies.now)) }
-{
-    for (i, tally) in tallies.iter().enumerate() {
-        check_tally(bank, atoms, tally, i as u8 + 1)?;
-    }
-    Ok(())
-}
-
-fn has_many_tallies(rule: &Rule) -> bool
-    ensures { result ≡ nat_lt 2 (length (rule_of rule.now).tallies) }
-{
-    rule.tallies.len() > MAX_TALLIES
+    check_each(&tally.elements, |item, element| {
+        check_element(
+            atoms,
+            item,
+            Place::Element {
+                tally: place,
+                element,
+            },
+        )
+    })
 }
 
 // The rule's three sets and the number of its tallies.
@@ -115,33 +96,30 @@ fn check_sets(atoms: u8, rule: &Rule) -> Result<(), Refused>
         && rule.must_not.is_within(atoms);
     let refusal = if !named {
         Refusal::UnnamedMark
-    } else if has_many_tallies(rule) {
+    } else if rule.tallies.len() > usize::from(MAX_TALLIES) {
         Refusal::TooManyTallies
     } else {
         return Ok(());
     };
-    Err(Refused {
-        refusal,
-        tally: 0,
-        element: 0,
-    })
+    Err(Refused::from(refusal))
 }
 
 impl<B: Bank> Plan<B> {
-    // What enter tests of a rule; a rule that passes may be kept.
-    pub(super) fn check_entry(&self, rule: &Rule) -> Result<(), Refused>
-        ensures tests { refusal_in result ≡ enter_refusal (B.meaning self.now.bank) (plan_of self.now) (rule_of rule.now) }
-        ensures fit { OnOk result ((vec_len self.now.rules < 64) × (fit_rule (rule_of rule.now) ≡ true)) }
+    // The rule as one that a plan keeps, where none of the tests of enter applies.
+    pub(super) fn check_entry(&self, rule: Rule) -> Result<FitRule, Refused>
+        ensures { MatchResult result
+            (λ k. (rule_of k.rule ≡ rule_of rule) × (enter_refusal (B.meaning self.now.bank) (plan_of self.now) (rule_of rule) ≡ None) × (vec_len self.now.table.rules < 64))
+            (λ f. enter_refusal (B.meaning self.now.bank) (plan_of self.now) (rule_of rule) ≡ Some (refused_of f)) }
     {
-        if self.rule_count() >= MAX_RULES {
-            return Err(Refused {
-                refusal: Refusal::RulesFull,
-                tally: 0,
-                element: 0,
-            });
+        if self.table.rules.len() >= MAX_RULES {
+            return Err(Refused::from(Refusal::RulesFull));
         }
-        let atoms = self.atom_count();
-        check_sets(atoms, rule)?;
-        check_tallies(&self.bank, atoms, rule.tallies.as_slice())
+        let atoms = self.atoms();
+        check_sets(atoms, &rule)?;
+        check_each(
+            &rule.tallies,
+            |tally, place| check_tally(&self.bank, atoms, tally, place),
+        )?;
+        Ok(FitRule { rule })
     }
 }
