@@ -1,7 +1,9 @@
 -- Texts written one after the other.
-use Rattle.std.proofs.Common.{◌≡◌, ℕ, ◌+◌, ◌≤◌, List, ◌++◌, length, take, drop, sym, ap, ◌∙◌, ap₂, arith}
+use Rattle.std.proofs.Common.{◌≡◌, ℕ, ◌+◌, ◌≤◌, List, [], ◌++◌, length, take, drop, sym, refl, ap, ◌∙◌, ap₂, arith, take-append-drop}
 use Rattle.std.proofs.lemmas.List.{append_assoc, length-append, length-take-le, take_at, drop_at, drop-drop}
 use Rattle.files.specs.Lines.{written}
+use Rattle.files.specs.Reports.{Wrote}
+use Rattle.files.specs.declared.report.Report.{Report}
 
 -- what is written at the end of a text that was written
 pub written_more : (report : List ℕ) (at : ℕ) (a b : List ℕ) → at ≤ length report
@@ -20,3 +22,24 @@ written_more report at a b within =
     ap₂ (λ (x y : List ℕ). x ++ (b ++ y)) first rest
     ∙ append_assoc (take at report) a (b ++ drop (at + length (a ++ b)) report)
     ∙ ap (λ (t : List ℕ). take at report ++ t) (sym (append_assoc a b (drop (at + length (a ++ b)) report)))
+
+pub wrote_none : (report : Report) → Wrote report report []
+wrote_none report =
+    let end : report.written + 0 ≡ report.written = omega arith in
+    record {
+      place = refl;
+      size = refl;
+      end = sym end;
+      bytes = sym (ap (λ (n : ℕ). take report.written report.bytes.now ++ drop n report.bytes.now) end ∙ take-append-drop report.written report.bytes.now);
+    }
+
+pub wrote_more : (a b c : Report) (s t : List ℕ) → Wrote a b s → Wrote b c t → Wrote a c (s ++ t)
+wrote_more a b c s t p q =
+    let l = length-append s t in
+    let within : a.written ≤ length a.bytes.now = a.within in
+    record {
+      place = q.place ∙ p.place;
+      size = q.size ∙ p.size;
+      end = omega arith;
+      bytes = q.bytes ∙ ap₂ (λ (bytes : List ℕ) (n : ℕ). written bytes n t) p.bytes p.end ∙ written_more a.bytes.now a.written s t within;
+    }

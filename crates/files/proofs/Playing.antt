@@ -1,14 +1,14 @@
 -- A play, record by record.
-use Rattle.std.proofs.Common.{◌≡◌, ℕ, zero, suc, ◌+◌, ◌-◌, ◌<◌, ◌≤◌, cond, eqb, ltb, List, [], ◌++◌, length, drop, Result, sym, refl, ap, ◌∙◌, subst, ap₂, inl, inr, arith}
-use Rattle.std.proofs.lemmas.List.{append_assoc, length-append, take_at, drop_at, drop-drop}
+use Rattle.std.proofs.Common.{◌≡◌, ℕ, zero, suc, ◌-◌, ◌<◌, ◌≤◌, cond, eqb, ltb, List, [], ◌++◌, length, Result, sym, refl, ap, ◌∙◌, subst, inl, inr, arith}
+use Rattle.std.proofs.lemmas.List.{append_assoc}
 use Rattle.std.proofs.lemmas.Bool.{cond-true, cond-false, cond_both, cases_lt, eq-eqb, ne_eqb, lt-ltb, le-ltb}
 use Rattle.theory.specs.Banks.{Bank}
 use Rattle.theory.specs.Calls.{Plan, Refused}
 use Rattle.records.specs.declared.fault.ReaderFault.{ReaderFault}
 use Rattle.records.specs.Fields.{Read, got, failed}
-use Rattle.files.specs.Lines.{Said, written}
+use Rattle.files.specs.Lines.{Said}
 use Rattle.records.specs.Records.{Sent, read_record}
-use Rattle.files.specs.Plays.{Step, answered, unread, by_record, step, Ending, input_ended, input_too_long, report_full, unreadable, Outcome, ends, after_line, line_at, unread_line, play_from, over}
+use Rattle.files.specs.Plays.{Step, answered, unread, by_record, step, Ending, input_ended, input_too_long, report_full, unreadable, Outcome, ends, after_line, line_at, unread_line, play_from}
 use Rattle.records.proofs.Shrinks.{Fewer, record_fewer}
 
 -- a record leaves fewer bytes
@@ -111,16 +111,6 @@ module _ (bank : Bank) (size : ℕ) where
     play_stop enough_room f e =
         first ∙ cond-false _ _ _ (le-ltb room 20 enough_room) ∙ ap (onward (length bytes - 1) room bytes) (sym e)
 
--- a line written after a text
-pub over_more : (text line report : List ℕ) → written (over text report) (length text) line ≡ over (text ++ line) report
-over_more text line report =
-    let back : drop (length text + length line) (over text report) ≡ drop (length (text ++ line)) report =
-    sym (drop-drop (length line) (length text) (over text report))
-    ∙ ap (drop (length line)) (drop_at text (drop (length text) report) (length text) refl)
-    ∙ drop-drop (length line) (length text) report
-    ∙ ap (λ (n : ℕ). drop n report) (sym (length-append text line)) in
-    ap₂ (λ (x y : List ℕ). x ++ (line ++ y)) (take_at text (drop (length text) report) (length text) refl) back
-    ∙ sym (append_assoc text line (drop (length (text ++ line)) report))
-
+-- two lines, one after the other
 pub after_more : (text line : List ℕ) (o : Outcome) → after_line text (after_line line o) ≡ after_line (text ++ line) o
 after_more text line o = ap (λ (t : List ℕ). ends t o.ending) (sym (append_assoc text line o.text))

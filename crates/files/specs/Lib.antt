@@ -1,4 +1,5 @@
 pub mod Faults
 pub mod Lines
+pub mod Reports
 pub mod Plays
 pub mod Turns

@@ -1,6 +1,7 @@
 -- The lines of a report, as bytes.
 use Rattle.std.specs.Prelude.{ℕ, ◌+◌, ◌/◌, ◌%◌, cond, List, [], ◌∷◌, ◌++◌, length, take, drop, codes, nat_lt}
 use Rattle.theory.specs.Verdicts.{Verdict, broken, smaller, stable}
+use Rattle.plans.specs.Refusals.{tally_place, element_place}
 use Rattle.judging.specs.Answers.{verdict_of}
 use Rattle.files.specs.declared.fault.FileFault.{FileFault}
 use Rattle.files.specs.declared.fault.FileFault.TheVariants.{Reader, Plan}
@@ -59,11 +60,11 @@ refusal_line number offset tally element = codes "NO " ++ ended (refusal_text nu
 -- the tally and the element place that enter tested, or zeros
 abbrev pub tally_tested : FileFault → ℕ
 tally_tested (Reader f) = 0
-tally_tested (Plan f) = f.tally
+tally_tested (Plan f) = tally_place f.place
 
 abbrev pub element_tested : FileFault → ℕ
 element_tested (Reader f) = 0
-element_tested (Plan f) = f.element
+element_tested (Plan f) = element_place f.place
 
 abbrev pub located_text : Located → List ℕ
 located_text l = refusal_text (fault_number l.fault) l.offset (tally_tested l.fault) (element_tested l.fault)

@@ -1,74 +1,79 @@
 -- What the parts of a play say of one record; `Plays` has what the whole says.
-use Rattle.std.specs.Prelude.{◌≡◌, ℕ, ◌+◌, ◌-◌, ◌<◌, ◌≤◌, List, length, Ok, Err, Result, ◌≢◌}
+use Rattle.std.specs.Prelude.{◌≡◌, ℕ, ◌+◌, ◌-◌, ◌<◌, List, [], length, Some, Option, Ok, Err, Result, ◌≢◌}
 use Rattle.theory.specs.Banks.{Bank}
-use Rattle.theory.specs.Calls.{Plan, Refused}
+use Rattle.theory.specs.Calls.{Refused}
+use Rattle.plans.specs.PlanView.{plan_of}
 use Rattle.plans.specs.Refusals.{refused_of}
 use Rattle.plans.specs.declared.refusal.Refused.{Refused as StoredRefused}
 use Rattle.records.specs.declared.fault.ReaderFault.{ReaderFault}
 use Rattle.records.specs.declared.fault.ReaderFault.TheVariants.{NoMemory}
 use Rattle.files.specs.declared.fault.FileFault.{FileFault}
 use Rattle.files.specs.declared.fault.FileFault.TheVariants.{Reader, Plan as OfPlan}
-use Rattle.files.specs.declared.fault.Located.{Located}
 use Rattle.files.specs.declared.line.Answer.{Answer}
 use Rattle.files.specs.declared.play.PlayFault.{PlayFault}
 use Rattle.files.specs.declared.play.PlayFault.TheVariants.{InputTooLong, ReportFull, NoMemory as OutOfMemory, Unreadable}
-use Rattle.files.specs.Lines.{Said, said_of, written}
-use Rattle.files.specs.Plays.{Step, answered, unread, step, line_at, unread_line}
+use Rattle.files.specs.declared.report.Report.{Report}
+use Rattle.files.specs.declared.session.Session.{Session}
+use Rattle.files.specs.Lines.{Said, said_of}
+use Rattle.files.specs.Reports.{HasRoom, Wrote}
+use Rattle.files.specs.Plays.{Step, answered, unread, step, line_at, unread_line, Outcome, play_from, Plays, IsFront}
 
 -- what the code answered to a call
 abbrev pub said_in : Result Answer StoredRefused → Result Said Refused
 said_in (Ok answer) = Ok (said_of answer)
 said_in (Err f) = Err (refused_of f)
 
--- what the code answered, with the plan and the bytes that it left, unless memory was wanting
-abbrev pub Steps : Result Answer FileFault → Plan → List ℕ → Step → Type 0
-Steps (Ok answer) plan rest should = answered (Ok (said_of answer)) plan rest ≡ should
-Steps (Err (OfPlan refused)) plan rest should = answered (Err (refused_of refused)) plan rest ≡ should
-Steps (Err (Reader fault)) plan rest should = (fault ≢ NoMemory) → unread fault ≡ should
+-- ---- a session
+-- the bytes that are left, the offset of the first of them, and what they are as a record
+abbrev pub rest_of : {B : Type 0} → Session B → List ℕ
+rest_of session = session.reader.rest.now
 
--- a line was written at the offset where the report ends so far
-pub record Lined (before after : List ℕ) (from to : ℕ) (line : List ℕ) : Type 0 where
-  pub end : to ≡ from + length line
-  pub report : after ≡ written before from line
+abbrev pub offset_of : {B : Type 0} → Session B → ℕ
+offset_of session = session.size - length (rest_of session)
 
--- nothing was written
-pub record Unlined (before after : List ℕ) (from to : ℕ) : Type 0 where
-  pub end : to ≡ from
-  pub report : after ≡ before
+abbrev pub step_of : {B : Type 0} → Bank → Session B → Step
+step_of bank session = step bank (plan_of session.plan) (rest_of session)
 
--- a refused record: the play goes on after the line of the plan's refusal, and ends after that of the reader's fault
-abbrev pub FaultPut : Result (Unit {0}) PlayFault → Located → List ℕ → List ℕ → ℕ → ℕ → Type 0
-FaultPut r l before after from to = elim l.fault [
-  | Reader f ↦ elim r [
-    | Ok done ↦ ⊥
-    | Err e ↦ elim e [
-      | InputTooLong ↦ ⊥
-      | ReportFull ↦ ⊥
-      | OutOfMemory ↦ (f ≡ NoMemory) × Unlined before after from to
-      | Unreadable offset fault ↦ (offset ≡ l.offset) × (fault ≡ f) × (f ≢ NoMemory) × Lined before after from to (unread_line l.offset f)
-    ]
-  ]
-  | OfPlan f ↦ (r ≡ Ok tt) × Lined before after from to (line_at l.offset (Err (refused_of f)))
-]
+-- all that is to come, at the end of this report
+abbrev pub to_come : {B : Type 0} → (B → Bank) → Session B → Report → Outcome
+to_come meaning session report =
+    play_from (meaning session.plan.bank) session.size (length (rest_of session)) (length report.bytes.now - report.written) (plan_of session.plan) (rest_of session)
+
+-- ---- one record
+-- it was read, and its call answered; the bank and the file's size are as they were
+pub record Answers {B : Type 0} (bank : Bank) (before after : Session B) (answer : Result Said Refused) : Type 0 where
+  pub stepped : answered answer (plan_of after.plan) (rest_of after) ≡ step_of bank before
+  pub keeps_bank : after.plan.bank ≡ before.plan.bank
+  pub keeps_size : after.size ≡ before.size
+
+-- what the code answered, unless memory was wanting
+abbrev pub Steps : {B : Type 0} → Bank → Result Answer FileFault → Session B → Session B → Type 0
+Steps bank (Ok answer) before after = Answers bank before after (Ok (said_of answer))
+Steps bank (Err (OfPlan refused)) before after = Answers bank before after (Err (refused_of refused))
+Steps bank (Err (Reader fault)) before after = (fault ≢ NoMemory) → unread fault ≡ step_of bank before
 
 -- a record that was read: its call's line was written
-pub record GoesOn (bank : Bank) (offset : ℕ) (plan plan' : Plan) (bytes rest before after : List ℕ) (from to : ℕ) : Type 0 where
+pub record GoesOn {B : Type 0} (bank : Bank) (before after : Session B) (report report' : Report) : Type 0 where
   pub answer : Result Said Refused
-  pub stepped : answered answer plan' rest ≡ step bank plan bytes
-  pub lined : Lined before after from to (line_at offset answer)
+  pub answers : Answers bank before after answer
+  pub wrote : Wrote report report' (line_at (offset_of before) answer)
 
 -- a record that cannot be read: the line of the fault was written
-pub record Stops (bank : Bank) (offset : ℕ) (fault : ReaderFault) (plan : Plan) (bytes before after : List ℕ) (from to : ℕ) : Type 0 where
-  pub stepped : unread fault ≡ step bank plan bytes
-  pub lined : Lined before after from to (unread_line offset fault)
+pub record Stops {B : Type 0} (bank : Bank) (session : Session B) (fault : ReaderFault) (report report' : Report) : Type 0 where
+  pub stepped : unread fault ≡ step_of bank session
+  pub wrote : Wrote report report' (unread_line (offset_of session) fault)
 
 -- one record, where the report has room for a line or has not
-abbrev pub RecordPlayed : Result (Unit {0}) PlayFault → Bank → ℕ → Plan → Plan → List ℕ → List ℕ → List ℕ → List ℕ → ℕ → ℕ → Type 0
-RecordPlayed (Ok done) bank offset plan plan' bytes rest before after from to =
-    (20 ≤ length before - from) × GoesOn bank offset plan plan' bytes rest before after from to
-RecordPlayed (Err InputTooLong) bank offset plan plan' bytes rest before after from to = ⊥
-RecordPlayed (Err ReportFull) bank offset plan plan' bytes rest before after from to =
-    (length before - from < 20) × Unlined before after from to
-RecordPlayed (Err OutOfMemory) bank offset plan plan' bytes rest before after from to = Unlined before after from to
-RecordPlayed (Err (Unreadable at fault)) bank offset plan plan' bytes rest before after from to =
-    (20 ≤ length before - from) × (at ≡ offset) × Stops bank offset fault plan bytes before after from to
+abbrev pub RecordPlayed : {B : Type 0} → Bank → Result (Unit {0}) PlayFault → Session B → Session B → Report → Report → Type 0
+RecordPlayed bank (Ok done) before after report report' = HasRoom report × GoesOn bank before after report report'
+RecordPlayed bank (Err InputTooLong) before after report report' = ⊥
+RecordPlayed bank (Err ReportFull) before after report report' = (length report.bytes.now < report.written + 20) × Wrote report report' []
+RecordPlayed bank (Err OutOfMemory) before after report report' = Wrote report report' []
+RecordPlayed bank (Err (Unreadable at fault)) before after report report' =
+    HasRoom report × (at ≡ offset_of before) × Stops bank before fault report report'
+
+-- what a play leaves of the report that it was given, in the same place
+pub record Leaves (fault : Option PlayFault) (before after : Report) (should : Outcome) : Type 0 where
+  pub place : after.bytes.ghost_name ≡ before.bytes.ghost_name
+  pub plays : Plays fault before.bytes.now after.bytes.now after.written should
+  pub wanting : fault ≡ Some OutOfMemory → IsFront after.bytes.now after.written should

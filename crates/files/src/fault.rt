@@ -7,20 +7,20 @@ use plans::refusal::Refused;
 use records::fault::ReaderFault;
 
 /// A fault met at a record: the layer that gave it, and the fault whole.
-#[derive(Clone, Copy)]
+#[derive(Clone, Copy, Debug, PartialEq, Eq)]
 pub enum FileFault {
     Reader(ReaderFault),
     Plan(Refused),
 }
 
-impl FileFault {
-    /// The fault's number in reports.
-    pub fn number(self) -> u8
-        ensures { result ≡ fault_number self }
-    {
-        match self {
-            FileFault::Reader(fault) => fault.number(),
-            FileFault::Plan(refused) => refused.refusal.number(),
+/// The fault's number in reports.
+impl From<FileFault> for u8 {
+    ghost from_gives = { λ fault n. n ≡ fault_number fault };
+
+    fn from(fault: FileFault) -> u8 {
+        match fault {
+            FileFault::Reader(fault) => u8::from(fault),
+            FileFault::Plan(refused) => u8::from(refused.refusal),
         }
     }
 }
@@ -42,7 +42,7 @@ impl From<Refused> for FileFault {
 }
 
 /// A fault with the offset of the outermost record's mark.
-#[derive(Clone, Copy)]
+#[derive(Clone, Copy, Debug, PartialEq, Eq)]
 pub struct Located {
     pub offset: u32,
     pub fault: FileFault,
