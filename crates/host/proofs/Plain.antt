@@ -1,8 +1,8 @@
 -- Every line is printable text and then byte 10.
-use Rattle.std.proofs.Common.{◌≡◌, ℕ, ◌+◌, ◌/◌, ◌%◌, ◌<◌, ◌≤◌, Bool, true, ltb, leb, List, [], ◌∷◌, ◌++◌, map, Ok, Err, codes, Result, refl, mod-lt, arith, lit≤}
+use Rattle.std.proofs.Common.{◌≡◌, ◌∙◌, ℕ, ◌+◌, ◌/◌, ◌%◌, ◌<◌, ◌≤◌, Bool, true, ltb, leb, List, [], ◌∷◌, ◌++◌, map, Ok, Err, codes, Result, refl, mod-lt, arith, lit≤}
 use Rattle.std.specs.List.{list_all}
 use Rattle.std.proofs.lemmas.List.Folds.{list_all-append}
-use Rattle.std.proofs.lemmas.Bool.{and_from, and_parts, le-leb, cond_both}
+use Rattle.std.proofs.lemmas.Bool.{and_from, le-leb, cond_both}
 use Rattle.theory.specs.Calls.{Refused}
 use Rattle.theory.specs.Verdicts.{broken, smaller, stable}
 use Rattle.files.specs.Lines.{Said, atom, entered, judged, two_digits, hex_digit, eight_hex, refusal_text, refusal_line}
