@@ -42,10 +42,19 @@ place_some {X} {A} view xs place i at within = let p = by xs i within in (p.0, a
     by (y ∷ ys) zero h = (view y, refl)
     by (y ∷ ys) (suc k) h = by ys k (le_of_suc-le-suc h)
 
--- an item that is lent, seen through a view
-module _ {X A : Type 0} (view : X → A) (xs : List X) (place i : ℕ) (x : X) (at : place ≡ suc i) (within : i < length xs) (is : x ≡ get_or xs i x) where
+-- the item at a place, which is lent by its index
+pub record Lent {X : Type 0} (xs : List X) (place i : ℕ) (x : X) : Type 0 where
+  pub at : place ≡ suc i
+  pub within : i < length xs
+  pub is : x ≡ get_or xs i x
+
+pub lent : {X : Type 0} (xs : List X) (place len : ℕ) {i : ℕ} {x : X} → length xs ≡ len → index_of place len ≡ Some i → x ≡ get_or xs i x → Lent xs place i x
+lent xs place len {i} {x} same e is = let there = index_there xs place len same i e in record { at = there.0; within = there.1; is = is }
+
+-- what it is seen as through a view, and what all are once it is given back
+module _ {X A : Type 0} (view : X → A) {xs : List X} {place i : ℕ} {x : X} (l : Lent xs place i x) where
   pub lent_found : at_place place (map view xs) ≡ Some (view x)
-  lent_found = ap (λ (n : ℕ). at_place n (map view xs)) at ∙ by xs i within ∙ ap (λ (z : X). Some (view z)) (sym is)
+  lent_found = ap (λ (n : ℕ). at_place n (map view xs)) l.at ∙ by xs i l.within ∙ ap (λ (z : X). Some (view z)) (sym l.is)
     where
       by : (ys : List X) (k : ℕ) → k < length ys → at_place (suc k) (map view ys) ≡ Some (view (get_or ys k x))
       by [] k h = absurd (omega arith)
@@ -53,7 +62,7 @@ module _ {X A : Type 0} (view : X → A) (xs : List X) (place i : ℕ) (x : X) (
       by (y ∷ ys) (suc k) h = by ys k (le_of_suc-le-suc h)
 
   pub lent_same : (y : X) → view y ≡ view x → map view (set xs i y) ≡ map view xs
-  lent_same y e = by xs i within (e ∙ ap view is)
+  lent_same y e = by xs i l.within (e ∙ ap view l.is)
     where
       by : (ys : List X) (k : ℕ) → k < length ys → view y ≡ view (get_or ys k x) → map view (set ys k y) ≡ map view ys
       by [] k h same = absurd (omega arith)
@@ -61,7 +70,7 @@ module _ {X A : Type 0} (view : X → A) (xs : List X) (place i : ℕ) (x : X) (
       by (z ∷ ys) (suc k) h same = ap (λ (rest : List A). view z ∷ rest) (by ys k (le_of_suc-le-suc h) same)
 
   pub lent_changed : (f : A → A) (y : X) → view y ≡ f (view x) → map view (set xs i y) ≡ changed_at f place (map view xs)
-  lent_changed f y e = by xs i within (e ∙ ap (λ (z : X). f (view z)) is) ∙ ap (λ (n : ℕ). changed_at f n (map view xs)) (sym at)
+  lent_changed f y e = by xs i l.within (e ∙ ap (λ (z : X). f (view z)) l.is) ∙ ap (λ (n : ℕ). changed_at f n (map view xs)) (sym l.at)
     where
       by : (ys : List X) (k : ℕ) → k < length ys → view y ≡ f (view (get_or ys k x)) → map view (set ys k y) ≡ changed_at f (suc k) (map view ys)
       by [] k h same = absurd (omega arith)

@@ -24,7 +24,7 @@ struct Name {
 }
 
 /// The names of the atoms, in the order of naming, and the rules, in their places. Room for all of them is reserved
-/// when the table is made, so that no call allocates.
+/// when the table is made.
 #[derive(Drop)]
 struct Table {
     names: Vec<Name>,
@@ -35,7 +35,7 @@ struct Table {
     ghost rule_room: { 64 ≤ vec_capacity rules },
 }
 
-/// A table, and the bank that all calls use.
+/// A plan over a bank, which all its calls use. No call of a plan that is made allocates.
 #[derive(Drop)]
 pub struct Plan<B> {
     bank: B,
