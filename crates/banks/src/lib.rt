@@ -31,7 +31,7 @@ pub trait Bank {
 }
 
 /// One kind: how many weights there are.
-#[derive(Clone, Copy, Debug)]
+#[derive(Clone, Copy, Debug, Default)]
 pub struct Count;
 
 impl Bank for Count {
@@ -53,7 +53,7 @@ impl Bank for Count {
 }
 
 /// One kind: the sum of the weights.
-#[derive(Clone, Copy, Debug)]
+#[derive(Clone, Copy, Debug, Default)]
 pub struct Sum;
 
 impl Bank for Sum {
@@ -75,7 +75,7 @@ impl Bank for Sum {
 }
 
 /// One kind: the greatest of the weights; of no weights it lies below every bound.
-#[derive(Clone, Copy, Debug)]
+#[derive(Clone, Copy, Debug, Default)]
 pub struct Max;
 
 impl Bank for Max {
@@ -97,12 +97,14 @@ impl Bank for Max {
 }
 
 /// The kinds of two banks, the second's numbered after the first's; the first 200 of them all.
-#[derive(Clone, Copy, Debug)]
+#[derive(Clone, Copy, Debug, Default)]
 pub struct Pair<A, B> {
     pub first: A,
     pub second: B,
 }
 
+// The choice between the two banks stands in both calls: they are of two types, and one function that makes it would
+// have to be passed each call twice.
 impl<A: Bank, B: Bank> Bank for Pair<A, B> {
     ghost meaning = { λ p. paired (A.meaning p.first) (B.meaning p.second) };
 
@@ -134,7 +136,7 @@ impl<A: Bank, B: Bank> Bank for Pair<A, B> {
 }
 
 /// A bank with the signs of its totals and weights changed.
-#[derive(Clone, Copy, Debug)]
+#[derive(Clone, Copy, Debug, Default)]
 pub struct Mirror<B> {
     pub below: B,
 }
@@ -158,7 +160,7 @@ impl<B: Bank> Bank for Mirror<B> {
 }
 
 /// A bank that steps only the weights above 0.
-#[derive(Clone, Copy, Debug)]
+#[derive(Clone, Copy, Debug, Default)]
 pub struct Gains<B> {
     pub below: B,
 }
@@ -196,21 +198,9 @@ pub struct Product {
 
 impl Product {
     pub fn new() -> Product {
-        let plain = Pair {
-            first: Pair {
-                first: Count,
-                second: Sum,
-            },
-            second: Max,
-        };
-        let kinds = Pair {
-            first: Pair {
-                first: plain,
-                second: Mirror { below: Max },
-            },
-            second: Gains { below: Sum },
-        };
-        Product { kinds }
+        Product {
+            kinds: FiveKinds::default(),
+        }
     }
 }
 

@@ -1,12 +1,12 @@
 // Plays standard input with a report of 65,536 bytes, and prints what was written.
 #![tactic(auto)]
 
-use files::play::{Played, play};
+use files::play::{MAX_INPUT, Played, play};
 use std::io;
 use std::io::{Read, Write};
 
 // One byte more than a file may have is enough to see that it is too long.
-const LIMIT: u64 = 65_537;
+const LIMIT: u64 = MAX_INPUT as u64 + 1;
 
 const REPORT: usize = 65_536;
 

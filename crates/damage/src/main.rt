@@ -139,7 +139,7 @@ impl Player {
         digest
     }
 
-    // The digest of the plays of all fronts of the file.
+    // The digest of the plays of all fronts of the file, by their lengths: no iterator gives a slice's fronts.
     fn play_fronts(&mut self, good: &[u8], room: usize) -> Digest {
         let mut digest = Digest::new();
         for length in 0..=good.len() {
@@ -154,6 +154,7 @@ fn repeated(heap: Global, good: &[u8], size: usize) -> Result<Vec<u8>, AllocErro
     good.iter().copied().cycle().take(size).collect(heap)
 }
 
+// By lengths, which are printed.
 fn show_fronts(rt: &HostRuntime, player: &mut Player, good: &[u8]) -> io::Result<()> {
     for length in 0..=good.len() {
         let outcome = player.play_once(&good[0..length], USUAL_ROOM);
@@ -162,6 +163,7 @@ fn show_fronts(rt: &HostRuntime, player: &mut Player, good: &[u8]) -> io::Result
     Ok(())
 }
 
+// By positions, which are printed, and each of which is changed in the whole file.
 fn show_changed(rt: &HostRuntime, player: &mut Player, file: &mut [u8]) -> io::Result<()> {
     for position in 0..file.len() {
         let digest = player.play_changed(file, position);

@@ -1,27 +1,20 @@
 -- Texts written one after the other.
-use Rattle.std.proofs.Common.{◌≡◌, ℕ, ◌+◌, ◌≤◌, List, [], ◌++◌, length, take, drop, sym, refl, ap, ◌∙◌, ap₂, arith, take-append-drop}
-use Rattle.std.proofs.lemmas.List.{append_assoc, length-append, length-take-le, take_at, drop_at, drop-drop}
+use Rattle.std.proofs.Common.{◌≡◌, ℕ, ◌+◌, List, [], ◌++◌, length, take, drop, subst, sym, refl, ap, ◌∙◌, ap₂, arith, take-append-drop}
+use Rattle.std.proofs.lemmas.List.{append_assoc, length-append, length-take-le, drop-drop}
+use Rattle.std.proofs.Math.Seq.{take-append_seam, drop-append-add}
 use Rattle.files.specs.Lines.{written}
 use Rattle.files.specs.Reports.{Wrote}
 use Rattle.files.specs.declared.report.Report.{Report}
 
+-- what is written between two parts
+written_between : (x y a : List ℕ) → written (x ++ y) (length x) a ≡ x ++ (a ++ drop (length a) y)
+written_between x y a = ap₂ (λ (u v : List ℕ). u ++ (a ++ v)) (take-append_seam x y) (drop-append-add x y (length a))
+
 -- what is written at the end of a text that was written
-pub written_more : (report : List ℕ) (at : ℕ) (a b : List ℕ) → at ≤ length report
-    → written (written report at a) (at + length a) b ≡ written report at (a ++ b)
-written_more report at a b within =
-    let front : length (take at report ++ a) ≡ at + length a = length-append (take at report) a ∙ ap (λ (n : ℕ). n + length a) (length-take-le at report within) in
-    let back = drop (at + length a) report in
-    let split : written report at a ≡ (take at report ++ a) ++ back = sym (append_assoc (take at report) a back) in
-    let first : take (at + length a) (written report at a) ≡ take at report ++ a =
-    ap (take (at + length a)) split ∙ take_at (take at report ++ a) back (at + length a) front in
-    let rest : drop (at + length a + length b) (written report at a) ≡ drop (at + length (a ++ b)) report =
-    sym (drop-drop (length b) (at + length a) (written report at a))
-    ∙ ap (drop (length b)) (ap (drop (at + length a)) split ∙ drop_at (take at report ++ a) back (at + length a) front)
-    ∙ drop-drop (length b) (at + length a) report
-    ∙ ap (λ (n : ℕ). drop n report) (let l = length-append a b in omega arith) in
-    ap₂ (λ (x y : List ℕ). x ++ (b ++ y)) first rest
-    ∙ append_assoc (take at report) a (b ++ drop (at + length (a ++ b)) report)
-    ∙ ap (λ (t : List ℕ). take at report ++ t) (sym (append_assoc a b (drop (at + length (a ++ b)) report)))
+written_more : (x y a b : List ℕ) → written (written (x ++ y) (length x) a) (length x + length a) b ≡ written (x ++ y) (length x) (a ++ b)
+written_more x y a b =
+    rw (written_between x y a, ← append_assoc x a (drop (length a) y), ← length-append x a, written_between (x ++ a) (drop (length a) y) b, written_between x y (a ++ b))
+    (simp (append_assoc, length-append, drop-drop))
 
 pub wrote_none : (report : Report) → Wrote report report []
 wrote_none report =
@@ -36,10 +29,13 @@ wrote_none report =
 pub wrote_more : (a b c : Report) (s t : List ℕ) → Wrote a b s → Wrote b c t → Wrote a c (s ++ t)
 wrote_more a b c s t p q =
     let l = length-append s t in
-    let within : a.written ≤ length a.bytes.now = a.within in
+    let front : length (take a.written a.bytes.now) ≡ a.written = length-take-le a.written a.bytes.now a.within in
+    let more = written_more (take a.written a.bytes.now) (drop a.written a.bytes.now) s t in
     record {
       place = q.place ∙ p.place;
       size = q.size ∙ p.size;
       end = omega arith;
-      bytes = q.bytes ∙ ap₂ (λ (bytes : List ℕ) (n : ℕ). written bytes n t) p.bytes p.end ∙ written_more a.bytes.now a.written s t within;
+      bytes = q.bytes ∙ ap₂ (λ (bytes : List ℕ) (n : ℕ). written bytes n t) p.bytes p.end
+          ∙ subst (λ (n : ℕ). written (written a.bytes.now n s) (n + length s) t ≡ written a.bytes.now n (s ++ t)) front
+          (rw take-append-drop at more);
     }

@@ -60,11 +60,11 @@ refusal_line number offset tally element = codes "NO " ++ ended (refusal_text nu
 -- the tally and the element place that enter tested, or zeros
 abbrev pub tally_tested : FileFault → ℕ
 tally_tested (Reader f) = 0
-tally_tested (Plan f) = tally_place f.place
+tally_tested (Plan f) = tally_place f.tested
 
 abbrev pub element_tested : FileFault → ℕ
 element_tested (Reader f) = 0
-element_tested (Plan f) = element_place f.place
+element_tested (Plan f) = element_place f.tested
 
 abbrev pub located_text : Located → List ℕ
 located_text l = refusal_text (fault_number l.fault) l.offset (tally_tested l.fault) (element_tested l.fault)

@@ -26,7 +26,7 @@ said_in (Err f) = Err (refused_of f)
 -- ---- a session
 -- the bytes that are left, the offset of the first of them, and what they are as a record
 abbrev pub rest_of : {B : Type 0} → Session B → List ℕ
-rest_of session = session.reader.rest.now
+rest_of session = session.reader
 
 abbrev pub offset_of : {B : Type 0} → Session B → ℕ
 offset_of session = session.size - length (rest_of session)

@@ -17,6 +17,7 @@ use records::letter::ReadingName;
 use records::record::Record;
 use sets::AtomSet;
 
+// The two readings are of two types: a `dyn Reading` would be chosen by the same match.
 fn judged<B: Bank>(
     plan: &Plan<B>,
     reading: ReadingName,
@@ -30,7 +31,7 @@ fn judged<B: Bank>(
     }
 }
 
-/// The record's call on the plan.
+/// The record's call on the plan. The kinds of records are closed, and each has other fields, so this is a match.
 pub(crate) fn called<B: Bank>(plan: &mut Plan<B>, sent: Record) -> Result<Answer, Refused>
     ensures said { said_in result ≡ called (B.meaning plan.old.bank) (plan_of plan.old) (record_of sent.entry) }
     ensures after { plan_of plan.new ≡ after_call (B.meaning plan.old.bank) (plan_of plan.old) (record_of sent.entry) }

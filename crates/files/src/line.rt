@@ -1,8 +1,7 @@
 // The lines of a report, and how they are written into it.
 ghost use Rattle.std.specs.Prelude.{◌≡◌, ◌<◌};
-ghost use Rattle.files.specs.Lines.{eight_hex, element_tested, hex_digit, located_line, located_text, said_line, said_of, tally_tested, two_digits, verdict_line};
+ghost use Rattle.files.specs.Lines.{eight_hex, element_tested, hex_digit, located_line, located_text, said_line, said_of, tally_tested, two_digits};
 ghost use Rattle.files.specs.Reports.{HasRoom, Wrote};
-ghost use Rattle.judging.specs.Answers.{verdict_of};
 
 use crate::fault::{FileFault, Located};
 use crate::report::Report;
@@ -39,12 +38,14 @@ fn eight_hex(n: u32) -> [u8; 8]
     std::array::from_fn(|place| hex_digit((n >> (28 - 4 * place)) % 16))
 }
 
+// The places in a refusal's line. The match is by the layer that gave the fault, and only the plan's have places: a method
+// of each layer's fault would be no plainer.
 fn places(fault: FileFault) -> (u8, u8)
     ensures { (result.0 ≡ tally_tested fault) × (result.1 ≡ element_tested fault) }
 {
     match fault {
         FileFault::Reader(_) => (0, 0),
-        FileFault::Plan(refused) => refused.place.numbers(),
+        FileFault::Plan(refused) => refused.tested.places(),
     }
 }
 
@@ -60,18 +61,8 @@ fn refusal_text(located: Located) -> [u8; 16]
     [n, m, b' ', a, b, c, d, e, f, g, h, b' ', t, b' ', v, w]
 }
 
+// Lines are put as bytes, and not by `Display`: no contract says when a formatter succeeds, and each line is promised.
 impl Report<'_> {
-    fn put_verdict(&mut self, verdict: Verdict)
-        requires { HasRoom self.old }
-        ensures { Wrote self.old self.new (verdict_line (verdict_of verdict)) }
-    {
-        match verdict {
-            Verdict::Broken(place) => self.put_line(b"BROKEN ", &two_digits(place)),
-            Verdict::Smaller(set) => self.put_line(b"SMALLER ", &eight_hex(set.0)),
-            Verdict::Stable => self.put_line(b"STABLE", b""),
-        }
-    }
-
     /// Writes the line of an answer.
     pub(crate) fn put_answer(&mut self, answer: Answer)
         requires { HasRoom self.old }
@@ -80,7 +71,11 @@ impl Report<'_> {
         match answer {
             Answer::Atom(n) => self.put_line(b"ATOM ", &two_digits(n)),
             Answer::Entered(place) => self.put_line(b"RULE ", &two_digits(place)),
-            Answer::Judged(verdict) => self.put_verdict(verdict),
+            Answer::Judged(Verdict::Broken(place)) => {
+                self.put_line(b"BROKEN ", &two_digits(place));
+            }
+            Answer::Judged(Verdict::Smaller(set)) => self.put_line(b"SMALLER ", &eight_hex(set.0)),
+            Answer::Judged(Verdict::Stable) => self.put_line(b"STABLE", b""),
         }
     }
 

@@ -66,7 +66,7 @@ impl Played {
     }
 }
 
-// The file's length is tested first.
+// A file that is too long is not begun.
 fn run(heap: Global, file: &[u8], report: &mut Report) -> Result<(), PlayFault>
     requires { report.old.written ≡ 0 }
     ensures { Leaves (result_err result) report.old report.new (playing file.now (length report.old.bytes.now)) }

@@ -12,14 +12,15 @@ use records::fault::ReaderFault;
 use records::reader::Reader;
 use std::alloc::Global;
 
-/// A plan, and what is left of the file that is played on it. The report is passed beside it: a loop over a struct that
-/// owns the plan and holds a `&mut` has no proof.
+/// A plan, and what is left of the file that is played on it.
+// The report is passed beside it: tried inside, where a struct that owns the plan and holds a `&mut` was used in the loop
+// "in a way that has no rule yet".
 #[derive(Drop)]
 pub(crate) struct Session<'a, B> {
     heap: Global,
     plan: Plan<B>,
     reader: Reader<'a>,
-    // The file's size.
+    // The file's size, for offsets: the reader is what is left, and knows no beginning.
     size: usize,
     ghost small: { size ≤ 65536 },
 }
@@ -32,7 +33,7 @@ impl<'a, B: Bank> Session<'a, B> {
     pub(crate) fn new(heap: Global, plan: Plan<B>, file: &'a [u8]) -> Session<'a, B>
         requires { length file.now ≤ 65536 }
         ensures plan { result.plan ≡ plan }
-        ensures rest { result.reader.rest.now ≡ file.now }
+        ensures rest { result.reader ≡ file.now }
         ensures size { result.size ≡ length file.now }
     {
         Session {
@@ -73,20 +74,13 @@ impl<'a, B: Bank> Session<'a, B> {
                 report.put_answer(answer);
                 Ok(())
             }
-            Err(FileFault::Plan(refused)) => {
-                report.put_refusal(Located {
-                    offset,
-                    fault: refused.into(),
-                });
-                Ok(())
-            }
             Err(FileFault::Reader(ReaderFault::NoMemory)) => Err(PlayFault::NoMemory),
-            Err(FileFault::Reader(fault)) => {
-                report.put_refusal(Located {
-                    offset,
-                    fault: fault.into(),
-                });
-                Err(PlayFault::Unreadable(offset, fault))
+            Err(fault) => {
+                report.put_refusal(Located { offset, fault });
+                match fault {
+                    FileFault::Reader(fault) => Err(PlayFault::Unreadable(offset, fault)),
+                    FileFault::Plan(_) => Ok(()),
+                }
             }
         }
     }

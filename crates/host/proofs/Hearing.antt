@@ -1,23 +1,17 @@
 -- A line tells what it is the line of.
-use Rattle.std.proofs.Common.{◌≡◌, ℕ, ◌<◌, Ok, Err, Result, refl, ap, ◌∙◌, lit≤}
+use Rattle.std.proofs.Common.{◌≡◌, ℕ, ◌<◌, Ok, Err, Result, refl, ap, lit≤, arith}
 use Rattle.theory.specs.Calls.{Refused, number}
 use Rattle.theory.specs.Verdicts.{broken, smaller, stable}
 use Rattle.records.specs.declared.fault.ReaderFault.{ReaderFault}
-use Rattle.records.specs.declared.fault.ReaderFault.TheVariants.{Short, UnknownMark, UnknownLetter, TooManyTallies, TooManyElements, NoMemory}
 use Rattle.records.specs.Faults.{reader_number}
-use Rattle.std.specs.Str.Parse.{digits_value}
-use Rattle.files.specs.Lines.{Said, atom, entered, judged, two_digits, eight_hex, refusal_line}
+use Rattle.files.specs.Lines.{Said, atom, entered, judged, refusal_line}
 use Rattle.files.specs.Plays.{line_at}
-use Rattle.host.specs.Laws.{one_digit, heard_atom, heard_rule, heard_broken, heard_smaller, heard_no, hear, said_of, Fits, LinesTell}
+use Rattle.host.specs.Laws.{heard_atom, heard_rule, heard_broken, heard_smaller, heard_no, hear, said_of, Fits, LinesTell}
 use Rattle.host.proofs.Digits.{one_back, two_back, eight_back}
 
 no_tells : (n offset tally element : ℕ) → n < 100 → offset < 4294967296 → tally < 10 → element < 100
     → hear (refusal_line n offset tally element) ≡ heard_no n offset tally element
-no_tells n offset tally element a b c d =
-    ap (λ (x : ℕ). heard_no x (digits_value 16 (eight_hex offset)) (digits_value 10 (one_digit tally)) (digits_value 10 (two_digits element))) (two_back n a)
-    ∙ ap (λ (x : ℕ). heard_no n x (digits_value 10 (one_digit tally)) (digits_value 10 (two_digits element))) (eight_back offset b)
-    ∙ ap (λ (x : ℕ). heard_no n offset x (digits_value 10 (two_digits element))) (one_back tally c)
-    ∙ ap (heard_no n offset tally) (two_back element d)
+no_tells n offset tally element a b c d = cc (two_back n a, eight_back offset b, one_back tally c, two_back element d)
 
 answer_tells : (offset : ℕ) (answer : Result Said Refused) → Fits answer → offset < 4294967296 → hear (line_at offset answer) ≡ said_of offset answer
 answer_tells offset (Ok (atom n)) fits small = ap heard_atom (two_back n fits)
@@ -28,12 +22,7 @@ answer_tells offset (Ok (judged stable)) fits small = refl
 answer_tells offset (Err f) fits small = no_tells (number f.refusal) offset f.tally f.element fits.0 small fits.1 fits.2
 
 fault_small : (fault : ReaderFault) → reader_number fault < 100
-fault_small Short = lit≤ tt
-fault_small UnknownMark = lit≤ tt
-fault_small UnknownLetter = lit≤ tt
-fault_small TooManyTallies = lit≤ tt
-fault_small TooManyElements = lit≤ tt
-fault_small NoMemory = lit≤ tt
+fault_small fault = grind arith
 
 pub lines_tell : LinesTell
 lines_tell = (

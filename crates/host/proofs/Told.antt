@@ -1,6 +1,7 @@
 -- A play's answer, turned into numbers.
-use Rattle.std.proofs.Common.{◌≡◌, ℕ, ◌<◌, List, ◌++◌, length, take, drop, Some, None, Option, refl, ap, ◌∙◌, ap₂, inl, inr, arith}
-use Rattle.std.proofs.lemmas.List.{length-append, take_at}
+use Rattle.std.proofs.Common.{◌≡◌, ℕ, ◌<◌, List, length, take, drop, Some, None, Option, refl, ap, ◌∙◌, inl, inr, arith}
+use Rattle.std.proofs.lemmas.List.{length-append}
+use Rattle.std.proofs.lemmas.Grind.{common_steps}
 use Rattle.files.specs.declared.play.PlayFault.{PlayFault}
 use Rattle.files.specs.declared.play.PlayFault.TheVariants.{InputTooLong, ReportFull, NoMemory, Unreadable}
 use Rattle.files.specs.Plays.{Ending, input_ended, input_too_long, report_full, unreadable, ending_number, Outcome, Exactly, Partly, Plays, IsFront}
@@ -13,11 +14,10 @@ module _ (answer : PlayAnswer) (before after : List ℕ) (count : ℕ) (should :
   told : (e : Ending) → Exactly e before after count should → answer.fault ≡ ending_number (fault_of e) → answer.offset ≡ ending_offset (fault_of e)
       → length after ≡ length before → Answers answer before after should
   told e x fault offset same =
-      let f : answer.fault ≡ ending_number (fault_of should.ending) = fault ∙ ap (λ (n : Ending). ending_number (fault_of n)) x.ended in
-      let w : answer.written ≡ length should.text = written ∙ x.bytes in
+      let f : answer.fault ≡ ending_number (fault_of should.ending) = cc in
       let l = ap length x.report ∙ length-append should.text (drop (length should.text) before) in
       record {
-        either = inl (record { report = x.report; written = w; fault = f; offset = offset ∙ ap (λ (n : Ending). ending_offset (fault_of n)) x.ended });
+        either = inl (record { report = x.report; written = cc; fault = f; offset = cc });
         by_fault = λ n. absurd (omega arith);
         within = omega arith;
       }
@@ -26,17 +26,15 @@ module _ (answer : PlayAnswer) (before after : List ℕ) (count : ℕ) (should :
   wanting : Partly before after count → IsFront after count should → answer.fault ≡ 99 → answer.offset ≡ 0
       → length after ≡ length before → Answers answer before after should
   wanting x front fault offset same =
-      let taken : take count after ≡ x.text =
-      ap₂ (λ (n : ℕ) (bytes : List ℕ). take n bytes) x.bytes x.report ∙ take_at x.text (drop (length x.text) before) (length x.text) refl in
-      let w : answer.written ≡ length x.text = written ∙ x.bytes in
+      let taken : take count after ≡ x.text = grind (arith, common_steps) in
       let l = ap length x.report ∙ length-append x.text (drop (length x.text) before) in
       let it : Wanting answer before after should =
       record {
         text = x.text;
         rest = front.rest;
-        front = front.text ∙ ap (λ (t : List ℕ). t ++ front.rest) taken;
+        front = cc;
         report = x.report;
-        written = w;
+        written = cc;
         fault = fault;
         offset = offset;
         short = front.short;

@@ -9,7 +9,7 @@ ghost use Rattle.std.specs.Prelude.{◌≡◌, length};
 use files::play::{PlayFault, Played, play};
 use std::alloc::Global;
 
-/// What a play answers, in numbers.
+/// What a play answers, in numbers, since C reads it.
 #[repr(C)]
 #[derive(Clone, Copy, Debug, PartialEq, Eq)]
 pub struct PlayAnswer {
@@ -21,6 +21,7 @@ pub struct PlayAnswer {
     pub offset: u32,
 }
 
+// One fault has an offset: no method of `Option` is plainer than the match.
 fn offset_of(fault: Option<PlayFault>) -> u32
     ensures { result ≡ ending_offset fault }
 {

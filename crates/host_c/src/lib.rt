@@ -11,6 +11,7 @@ use std::alloc::Global;
 
 /// Plays the file: the report gets a line for each record, and keeps every byte past them. The other clauses are laws of
 /// every play, for who reads reports.
+// The call of `host` again: what C calls is exported by a static library, which no program in Rattle can use.
 #[unsafe(no_mangle)]
 pub extern "C" fn linenscribe_play(heap: Global, file: &[u8], report: &mut [u8]) -> PlayAnswer
     ensures answer { Answers result report.old report.new (playing file.now (length report.old)) }

@@ -7,17 +7,17 @@ ghost use Rattle.theory.specs.Calls.{judge_answer};
 ghost use Rattle.std.specs.Prelude.{◌≡◌};
 
 use banks::Bank;
-use cases::Case;
 use plans::plan::Plan;
 use plans::refusal::Refusal;
 use readings::Reading;
 use sets::AtomSet;
+use trial::Trial;
 
 mod bodies;
-mod cases;
 mod reducts;
 mod tallies;
 mod totals;
+mod trial;
 
 /// The most marks that a candidate may have.
 const MAX_MARKS: u32 = 20;
@@ -47,11 +47,11 @@ pub fn judge<B: Bank, R: Reading>(
     if candidate.0.count_ones() > MAX_MARKS {
         return Err(Refusal::TooManyMarks);
     }
-    let case = Case {
+    let trial = Trial {
         bank: plan.bank(),
         reading,
         candidate,
         rules: plan.rules(),
     };
-    Ok(case.verdict())
+    Ok(trial.verdict())
 }

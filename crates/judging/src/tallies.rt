@@ -13,6 +13,8 @@ pub trait TallyTest {
     ghost test: { Self → Meaning → Bool };
 
     /// Whether the tally passes.
+    // That it is fit is asked here and of `relation_holds`, and is in no type. Tried: a typed one that `every_tally` makes
+    // of a lent tally has to be shown fit inside its closure, where that goal stayed open.
     fn passes(&self, tally: &Tally) -> bool
         requires { fit_tally (tally_of tally.now) ≡ true }
         ensures { result ≡ test self.now (tally_of tally.now) };

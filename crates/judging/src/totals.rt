@@ -40,6 +40,8 @@ impl<B: Bank, R: Reading> Seen<'_, B, R> {
     }
 
     /// Whether the tally's relation holds over the elements that count.
+    // Inlined, so that the compiler drops a fact that the reading does not look at: judging takes twice the time without.
+    #[inline(always)]
     #[tactic(auto, unfolding(theory::specs::Rules::fact))]
     pub fn relation_holds(&self, tally: &Tally) -> bool
         requires { fit_tally (tally_of tally.now) ≡ true }

@@ -1,5 +1,5 @@
 -- The first test that applies, over lists of tests that are joined.
-use Rattle.std.proofs.Common.{◌≡◌, ℕ, suc, Bool, true, false, cond, List, [], ◌∷◌, ◌++◌, map, length, Some, None, Option, sym, refl, ap, ◌∙◌, arith}
+use Rattle.std.proofs.Common.{◌≡◌, ℕ, suc, Bool, true, false, cond, List, [], ◌∷◌, ◌++◌, map, Some, None, Option, sym, refl, ap, ◌∙◌}
 use Rattle.theory.specs.Calls.{Test, first_applying, tests_from}
 use Rattle.std.specs.Option.{option_or}
 
@@ -24,10 +24,6 @@ first_turn {T} {A} tests start place next items x rest cut at more o e =
     ∙ sym (first_join (tests place x) (tests_from tests (suc place) rest))
     ∙ ap (λ (n : ℕ). first_applying (tests_from tests n (x ∷ rest))) at
     ∙ ap (λ (xs : List T). first_applying (tests_from tests start xs)) (sym cut)
-
-pub first_end : {T A : Type 0} (tests : ℕ → T → List (Test A)) (start : ℕ) (items : List T) → length items ≡ 0 → None ≡ first_applying (tests_from tests start items)
-first_end tests start [] e = refl
-first_end tests start (x ∷ items) e = absurd (omega arith)
 
 -- tests of what the items stand for
 pub tests_from-map : {X T A : Type 0} (tests : ℕ → T → List (Test A)) (view : X → T) (start : ℕ) (items : List X)

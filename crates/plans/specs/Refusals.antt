@@ -3,8 +3,8 @@ use Rattle.std.specs.Prelude.{ℕ, Some, None, Ok, Err, Option, Result}
 use Rattle.theory.specs.Calls as calls
 use Rattle.plans.specs.declared.refusal.Refusal.{Refusal}
 use Rattle.plans.specs.declared.refusal.Refusal.TheVariants.{NameLength, NameByte, NameBorne, AtomsFull, RulesFull, UnnamedMark, TooManyTallies, TooManyElements, NoKind, NoRelation, NoSign, FarBound, HeavyWeight, NoSuchPlace, TooManyMarks}
-use Rattle.plans.specs.declared.refusal.Place.{Place}
-use Rattle.plans.specs.declared.refusal.Place.TheVariants.{Rule, Tally, Element}
+use Rattle.plans.specs.declared.refusal.Tested.{Tested}
+use Rattle.plans.specs.declared.refusal.Tested.TheVariants.{Rule, Tally, Element}
 use Rattle.plans.specs.declared.refusal.Refused.{Refused}
 
 abbrev pub refusal_of : Refusal → calls.Refusal
@@ -25,18 +25,18 @@ refusal_of NoSuchPlace = calls.no_such_place
 refusal_of TooManyMarks = calls.too_many_marks
 
 -- the places of the tally and of the element that were being tested, or 0
-abbrev pub tally_place : Place → ℕ
+abbrev pub tally_place : Tested → ℕ
 tally_place Rule = 0
 tally_place (Tally t) = t
 tally_place (Element t e) = t
 
-abbrev pub element_place : Place → ℕ
+abbrev pub element_place : Tested → ℕ
 element_place Rule = 0
 element_place (Tally t) = 0
 element_place (Element t e) = e
 
 abbrev pub refused_of : Refused → calls.Refused
-refused_of f = record { refusal = refusal_of f.refusal; tally = tally_place f.place; element = element_place f.place }
+refused_of f = record { refusal = refusal_of f.refusal; tally = tally_place f.tested; element = element_place f.tested }
 
 -- an answer of name, and one of enter
 abbrev pub name_answer_of : Result ℕ Refusal → Result ℕ calls.Refusal

@@ -25,6 +25,7 @@ struct Name {
 
 /// The names of the atoms, in the order of naming, and the rules, in their places. Room for all of them is reserved
 /// when the table is made.
+// No set or map of names: it would allocate in a call, and no call of a plan may.
 #[derive(Drop)]
 struct Table {
     names: Vec<Name>,
@@ -36,6 +37,8 @@ struct Table {
 }
 
 /// A plan over a bank, which all its calls use. No call of a plan that is made allocates.
+// No `Model`: its value would be the names and rules with the bank beside, and clauses say these apart: what a call leaves
+// of the one, and that it leaves the other, a clause for each.
 #[derive(Drop)]
 pub struct Plan<B> {
     bank: B,

@@ -1,6 +1,6 @@
 // Why a call of a plan is refused.
 ghost use Rattle.plans.specs.Refusals.{element_place, refusal_of, tally_place};
-ghost use Rattle.plans.specs.declared.refusal.Place.TheVariants.{Rule};
+ghost use Rattle.plans.specs.declared.refusal.Tested.TheVariants.{Rule};
 ghost use Rattle.theory.specs.Calls.{number};
 ghost use Rattle.std.specs.Prelude.{◌≡◌};
 
@@ -65,22 +65,22 @@ impl From<Refusal> for u8 {
 
 /// What of a rule was being tested, by the places of the tally and of the element, which count from 1.
 #[derive(Clone, Copy, Debug, PartialEq, Eq)]
-pub enum Place {
+pub enum Tested {
     Rule,
     Tally { tally: u8 },
     Element { tally: u8, element: u8 },
 }
 
-impl Place {
+impl Tested {
     /// The places of the tally and of the element in reports, where 0 says that none was being tested.
-    pub fn numbers(self) -> (u8, u8)
+    pub fn places(self) -> (u8, u8)
         ensures tally { result.0 ≡ tally_place self }
         ensures element { result.1 ≡ element_place self }
     {
         match self {
-            Place::Rule => (0, 0),
-            Place::Tally { tally } => (tally, 0),
-            Place::Element { tally, element } => (tally, element),
+            Tested::Rule => (0, 0),
+            Tested::Tally { tally } => (tally, 0),
+            Tested::Element { tally, element } => (tally, element),
         }
     }
 }
@@ -89,17 +89,17 @@ impl Place {
 #[derive(Clone, Copy, Debug, PartialEq, Eq)]
 pub struct Refused {
     pub refusal: Refusal,
-    pub place: Place,
+    pub tested: Tested,
 }
 
 /// A refusal while neither a tally nor an element was being tested.
 impl From<Refusal> for Refused {
-    ghost from_gives = { λ f r. r ≡ record { refusal = f; place = Rule } };
+    ghost from_gives = { λ f r. r ≡ record { refusal = f; tested = Rule } };
 
     fn from(refusal: Refusal) -> Refused {
         Refused {
             refusal,
-            place: Place::Rule,
+            tested: Tested::Rule,
         }
     }
 }

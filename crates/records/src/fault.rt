@@ -31,8 +31,7 @@ impl From<ReaderFault> for u8 {
             ReaderFault::Short => 1,
             ReaderFault::UnknownMark => 2,
             ReaderFault::UnknownLetter => 3,
-            ReaderFault::TooManyTallies => 9,
-            ReaderFault::TooManyElements => 9,
+            ReaderFault::TooManyTallies | ReaderFault::TooManyElements => 9,
             ReaderFault::NoMemory => 99,
         }
     }

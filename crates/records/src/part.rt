@@ -30,13 +30,13 @@ pub(crate) trait Part: Drop {
 
     /// The next part, whole.
     fn read(reader: &mut Reader<'_>, heap: Global) -> Result<Self, ReaderFault>
-        ensures { Reads view result reader.new.rest.now (reads reader.old.rest.now) };
+        ensures { Reads view result reader.new (reads reader.old) };
 }
 
 impl Reader<'_> {
     /// A list of parts, behind their count.
     pub(crate) fn parts<T: Part>(&mut self, heap: Global) -> Result<Vec<T>, ReaderFault>
-        ensures { Reads (λ v. map T.view v.items) result self.new.rest.now (read_parts T.MOST T.TOO_MANY T.reads self.old.rest.now) }
+        ensures { Reads (λ v. map T.view v.items) result self.new (read_parts T.MOST T.TOO_MANY T.reads self.old) }
     {
         let count = self.byte()?;
         if count > T::MOST {
@@ -48,7 +48,7 @@ impl Reader<'_> {
     // This many parts; room for them is asked for first.
     #[tactic(auto, using(crate::proofs::Repeats::repeat_more, std::proofs::lemmas::List::map_push))]
     fn counted<T: Part>(&mut self, heap: Global, count: u8) -> Result<Vec<T>, ReaderFault>
-        ensures { Reads (λ v. map T.view v.items) result self.new.rest.now (repeated T.reads count self.old.rest.now) }
+        ensures { Reads (λ v. map T.view v.items) result self.new (repeated T.reads count self.old) }
     {
         let mut parts = Vec::with_capacity(heap, usize::from(count))?;
         for _ in 0..count {

@@ -107,14 +107,14 @@ impl Part for Tally {
 
 impl<'a> Reader<'a> {
     fn mark(&mut self) -> Result<Mark, ReaderFault>
-        ensures { read_in (λ m. m) result self.new.rest.now ≡ read_mark self.old.rest.now }
+        ensures { read_in (λ m. m) result self.new ≡ read_mark self.old }
     {
         Mark::try_from(self.array()?)
     }
 
     // The mark that is due here.
     fn expect(&mut self, wanted: Mark) -> Result<(), ReaderFault>
-        ensures { read_in (λ m. m) result self.new.rest.now ≡ expect (same_mark wanted) self.old.rest.now }
+        ensures { read_in (λ m. m) result self.new ≡ expect (same_mark wanted) self.old }
     {
         if self.mark()? == wanted {
             Ok(())
@@ -124,13 +124,13 @@ impl<'a> Reader<'a> {
     }
 
     fn set(&mut self) -> Result<AtomSet, ReaderFault>
-        ensures { read_in (λ s. s.0) result self.new.rest.now ≡ read_word self.old.rest.now }
+        ensures { read_in (λ s. s.0) result self.new ≡ read_word self.old }
     {
         Ok(AtomSet(self.word()?))
     }
 
     fn rule(&mut self, heap: Global) -> Result<Rule, ReaderFault>
-        ensures { Reads rule_of result self.new.rest.now (read_rule self.old.rest.now) }
+        ensures { Reads rule_of result self.new (read_rule self.old) }
     {
         let head = self.set()?;
         let must = self.set()?;
@@ -145,14 +145,14 @@ impl<'a> Reader<'a> {
     }
 
     fn name(&mut self) -> Result<&'a [u8], ReaderFault>
-        ensures { read_in (λ s. s.now) result self.new.rest.now ≡ read_name self.old.rest.now }
+        ensures { read_in (λ s. s.now) result self.new ≡ read_name self.old }
     {
         let size = self.byte()?;
         self.slice(usize::from(size))
     }
 
     fn judge(&mut self) -> Result<Record<'a>, ReaderFault>
-        ensures { read_in record_of result self.new.rest.now ≡ read_judge self.old.rest.now }
+        ensures { read_in record_of result self.new ≡ read_judge self.old }
     {
         let reading = ReadingName::try_from(self.byte()?)?;
         let candidate = self.set()?;
@@ -161,7 +161,7 @@ impl<'a> Reader<'a> {
 
     /// The next record, whole.
     pub fn record(&mut self, heap: Global) -> Result<Record<'a>, ReaderFault>
-        ensures { Reads record_of result self.new.rest.now (read_record self.old.rest.now) }
+        ensures { Reads record_of result self.new (read_record self.old) }
     {
         match self.mark()? {
             Mark::Name => Ok(Record::Name(self.name()?)),

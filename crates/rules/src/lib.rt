@@ -9,9 +9,10 @@ ghost use Rattle.std.specs.Prelude.{◌≡◌, true};
 
 use sets::AtomSet;
 
-/// The most tallies that a rule may have, and the most elements of a tally.
+/// The most tallies that a rule may have.
 pub const MAX_TALLIES: u8 = 2;
 
+/// The most elements that a tally may have.
 pub const MAX_ELEMENTS: u8 = 12;
 
 /// A weight, which counts where the in set is there and the out set is not.
@@ -23,8 +24,9 @@ pub struct Element {
 }
 
 /// A relation between a total, on the left, and a bound. `Unread` is a code that was sent and is none of the six:
-/// no plan keeps one. A `Result` would be no plainer: the reader takes every code, and who uses a relation would have to
-/// say each time what an unread one means.
+/// no plan keeps one.
+// No `Result` beside it: the reader takes every code, so its conversion cannot fail, and the plan refuses an unread one in
+// its turn among the tests.
 #[derive(Clone, Copy, Debug, PartialEq, Eq)]
 pub enum Relation {
     Equal,
@@ -37,7 +39,8 @@ pub enum Relation {
 }
 
 /// Whether a tally is met where its relation holds or where it fails. `Unread` is a code that was sent and is
-/// neither: no plan keeps one. A `Result` would be no plainer, as for a relation.
+/// neither: no plan keeps one.
+// No `Result` beside it, as for a relation.
 #[derive(Clone, Copy, Debug, PartialEq, Eq)]
 pub enum Sign {
     Plain,
@@ -46,6 +49,7 @@ pub enum Sign {
 }
 
 /// A condition on a total: of its kind in the bank, over the elements that count, against a bound.
+// The kind is a number and no enum: banks number their kinds, a pair of banks the second's after the first's.
 #[derive(Drop)]
 pub struct Tally {
     pub kind: u8,

@@ -1,8 +1,9 @@
 -- The next subset: (j - i) & i at w bits is the lowest number inside i above j.
-use Rattle.std.proofs.Common.{◌≡◌, ℕ, zero, suc, ◌+◌, ◌-◌, ◌*◌, ◌/◌, ◌%◌, ◌^◌, ◌<◌, ◌≤◌, min, true, ◌⊎◌, sym, ap, ◌∙◌, inl, inr, pow-suc, arith}
-use lib.Bits.{bit_and, and_comm, and_step, and_shr, and_mod, and_le_l}
-use Rattle.std.proofs.lemmas.Bool.{cases_lt, eqb-true, and_parts}
-use Rattle.theory.specs.Sets.{has, contains}
+use Rattle.std.proofs.Common.{◌≡◌, ℕ, zero, suc, ◌+◌, ◌-◌, ◌*◌, ◌/◌, ◌%◌, ◌^◌, ◌<◌, ◌≤◌, min, true, ap, ◌∙◌, pow-suc, arith}
+use lib.Bits.{bit_and, and_comm, and_step, and_le_l}
+use Rattle.std.proofs.lemmas.Bool.{eqb-true}
+use Rattle.std.proofs.lemmas.Bool.Decides.{nat_tests}
+use Rattle.theory.specs.Sets.{contains}
 use Rattle.theory.proofs.SetLaws.{has_and, contains_from, contains_le}
 use Rattle.sets.specs.Next.{Next}
 
@@ -14,17 +15,9 @@ inside_is : (i j : ℕ) → contains i j ≡ true → Inside i j
 unfolding contains
 inside_is i j c = eqb-true (bit_and i j) j c
 
--- a digit is 0 or 1
-digit : (x : ℕ) → (x % 2 ≡ 0) ⊎ (x % 2 ≡ 1)
-digit x = elim (cases_lt (x % 2) 1) [ inl l ↦ inl (omega arith) | inr l ↦ inr (omega arith) ]
-
 -- what is inside, digit by digit
 halves : (i j : ℕ) → Inside i j → Inside (i / 2) (j / 2) × (j % 2 ≤ i % 2)
-halves i j e = (
-  sym (and_shr i j 1) ∙ ap (λ (x : ℕ). x / 2) e,
-  let same : bit_and (i % 2) (j % 2) ≡ j % 2 = sym (and_mod i j 1) ∙ ap (λ (x : ℕ). x % 2) e in
-      omega (arith, and_le_l (i % 2) (j % 2)),
-)
+halves i j e = (omega (arith, and_step i j), omega (arith, and_step i j))
 
 -- one step of `and`, where the half of x is known
 step : (i x y : ℕ) → x / 2 ≡ y → bit_and i x ≡ bit_and (i / 2) y * 2 + min (i % 2) (x % 2)
@@ -46,13 +39,7 @@ next_more (suc w) i j fits e below =
     let x = j + (2 ^ suc w - i) in
     let h = halves i j e in
     let p = pow-suc 2 w in
-    elim (digit i) [
-      | inl q ↦ omega (arith, step i x (j / 2 + (2 ^ w - i / 2)) (omega arith), next_more w (i / 2) (j / 2) (omega arith) h.0 (omega arith))
-      | inr q ↦ elim (digit j) [
-        | inl r ↦ omega (arith, step i x (j / 2 + (2 ^ w - 1 - i / 2)) (omega arith), flat w (i / 2) (j / 2) (omega arith) h.0)
-        | inr r ↦ omega (arith, step i x (j / 2 + (2 ^ w - i / 2)) (omega arith), next_more w (i / 2) (j / 2) (omega arith) h.0 (omega arith))
-      ]
-    ]
+    grind (arith, step i x (j / 2 + (2 ^ w - i / 2)), step i x (j / 2 + (2 ^ w - 1 - i / 2)), flat w (i / 2) (j / 2) (omega arith) h.0, next_more w (i / 2) (j / 2) (omega arith) h.0)
 
 -- and no set inside i lies between
 next_least : (w i j k : ℕ) → i < 2 ^ w → Inside i j → Inside i k → j < k → bit_and i (j + (2 ^ w - i)) ≤ k
@@ -62,16 +49,10 @@ next_least (suc w) i j k fits e f above =
     let h = halves i j e in
     let m = halves i k f in
     let p = pow-suc 2 w in
-    elim (digit i) [
-      | inl q ↦ omega (arith, step i x (j / 2 + (2 ^ w - i / 2)) (omega arith), next_least w (i / 2) (j / 2) (k / 2) (omega arith) h.0 m.0 (omega arith))
-      | inr q ↦ elim (digit j) [
-        | inl r ↦ omega (arith, step i x (j / 2 + (2 ^ w - 1 - i / 2)) (omega arith), flat w (i / 2) (j / 2) (omega arith) h.0)
-        | inr r ↦ omega (arith, step i x (j / 2 + (2 ^ w - i / 2)) (omega arith), next_least w (i / 2) (j / 2) (k / 2) (omega arith) h.0 m.0 (omega arith))
-      ]
-    ]
+    grind (arith, step i x (j / 2 + (2 ^ w - i / 2)), step i x (j / 2 + (2 ^ w - 1 - i / 2)), flat w (i / 2) (j / 2) (omega arith) h.0, next_least w (i / 2) (j / 2) (k / 2) (omega arith) h.0 m.0)
 
 and_inside : (x i : ℕ) → contains i (bit_and x i) ≡ true
-and_inside x i = contains_from i (bit_and x i) (λ n h. (and_parts (has x n) (has i n) (sym (has_and x i n) ∙ h)).1)
+and_inside x i = contains_from i (bit_and x i) (λ n h. grind (arith, nat_tests, has_and x i n))
 
 -- the number that the code makes
 pub next_is : (i j : ℕ) → i < 4294967296 → contains i j ≡ true → (j ≡ i → ⊥) → Next i j (bit_and ((j + (4294967296 - i)) % 4294967296) i)
@@ -83,8 +64,5 @@ next_is i j fits c proper =
     record {
       inside = and_inside ((j + (2 ^ 32 - i)) % 2 ^ 32) i;
       above = omega (arith, same, next_more 32 i j fits e below);
-      first = λ m d lower. elim (cases_lt j m) [
-        | inl above ↦ omega (arith, same, next_least 32 i j m fits e (inside_is i m d) above)
-        | inr no_more ↦ no_more
-      ];
+      first = λ m d lower. grind (arith, same, next_least 32 i j m fits e (inside_is i m d));
     }

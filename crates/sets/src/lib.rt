@@ -27,7 +27,7 @@ impl AtomSet {
     }
 
     /// Whether each atom of the set is one of the first `atoms`.
-    #[tactic(auto, using(crate::proofs::Shifts::all_within, crate::proofs::Shifts::shifted), unfolding(theory::specs::Sets::within))]
+    #[tactic(auto, using(crate::proofs::Shifts::all_within), unfolding(theory::specs::Sets::within))]
     pub fn is_within(self, atoms: u8) -> bool
         ensures { result ≡ within atoms self.0 }
     {

@@ -1,24 +1,20 @@
 -- The two readings that ship keep a reading's laws.
-use Rattle.std.proofs.Common.{◌≡◌, ℕ, Bool, true, false, ◌&&◌, sym, refl, ◌∙◌, ap₂, inl, inr}
+use Rattle.std.proofs.Common.{◌≡◌, ℕ, true, ◌&&◌, sym, refl, ◌∙◌, ap₂, inl, inr}
+use Rattle.std.proofs.lemmas.Bool.Decides.{same_from_decides}
 use Rattle.theory.specs.Sets.{has, contains, misses}
 use Rattle.theory.specs.Readings.{LawfulReading, flp, ferraris}
 use Rattle.theory.proofs.SetLaws.{contains_all, contains_from, misses_none, misses_from}
 
-pub same_tests : (x y : Bool) → (x ≡ true → y ≡ true) → (y ≡ true → x ≡ true) → x ≡ y
-same_tests true y f g = sym (f refl)
-same_tests false true f g = g refl
-same_tests false false f g = refl
-
 -- sets with the same marks in m contain, and miss, it alike
-pub contains_alike : (s r m : ℕ) → ((n : ℕ) → has m n ≡ true → has s n ≡ has r n) → contains s m ≡ contains r m
+contains_alike : (s r m : ℕ) → ((n : ℕ) → has m n ≡ true → has s n ≡ has r n) → contains s m ≡ contains r m
 contains_alike s r m f =
-    same_tests _ _ (λ h. contains_from r m (λ n k. sym (f n k) ∙ contains_all s m n h k))
-    (λ h. contains_from s m (λ n k. f n k ∙ contains_all r m n h k))
+    same_from_decides (contains s m) (contains r m)
+    (λ h. contains_from r m (λ n k. sym (f n k) ∙ contains_all s m n h k), λ h. contains_from s m (λ n k. f n k ∙ contains_all r m n h k)) (λ h. h, λ h. h)
 
-pub misses_alike : (s r m : ℕ) → ((n : ℕ) → has m n ≡ true → has s n ≡ has r n) → misses s m ≡ misses r m
+misses_alike : (s r m : ℕ) → ((n : ℕ) → has m n ≡ true → has s n ≡ has r n) → misses s m ≡ misses r m
 misses_alike s r m f =
-    same_tests _ _ (λ h. misses_from r m (λ n k l. misses_none s m n h k (f n k ∙ l)))
-    (λ h. misses_from s m (λ n k l. misses_none r m n h k (sym (f n k) ∙ l)))
+    same_from_decides (misses s m) (misses r m)
+    (λ h. misses_from r m (λ n k l. misses_none s m n h k (f n k ∙ l)), λ h. misses_from s m (λ n k l. misses_none r m n h k (sym (f n k) ∙ l))) (λ h. h, λ h. h)
 
 pub flp_lawful : LawfulReading flp
 flp_lawful = record {

@@ -1,29 +1,20 @@
 -- The search for the lowest number that passes a test.
-use Rattle.std.proofs.Common.{◌≡◌, ℕ, zero, suc, ◌+◌, ◌<◌, ◌≤◌, Bool, true, false, Some, None, refl, ap, ◌∙◌, inl, inr, arith}
-use Rattle.std.proofs.lemmas.Bool.{cases_order}
+use Rattle.std.proofs.Common.{◌≡◌, ℕ, zero, suc, ◌+◌, ◌<◌, ◌≤◌, Bool, true, false, Some, None, refl, arith}
 use Rattle.theory.specs.Verdicts.{lowest}
 
--- ---- the lowest number from k on
-lowest_more : (p : ℕ → Bool) (n k : ℕ) (b : Bool) → p k ≡ b → lowest p (suc n) k ≡ elim b [ true ↦ Some k | false ↦ lowest p n (suc k) ]
-unfolding lowest
-lowest_more p n k b e = ap (λ (x : Bool). elim x [ true ↦ Some k | false ↦ lowest p n (suc k) ]) e
-
 lowest_from : (p : ℕ → Bool) (n k j : ℕ) → k ≤ j → j < k + n → p j ≡ true → ((m : ℕ) → k ≤ m → m < j → p m ≡ false) → lowest p n k ≡ Some j
+unfolding lowest
 lowest_from p zero k j low high yes' none = absurd (omega arith)
 lowest_from p (suc n) k j low high yes' none =
-    elim (cases_order k j) [
-      | inl e ↦ lowest_more p n k true (ap p e ∙ yes') ∙ ap Some e
-      | inr o ↦ elim o [
-        | inl less ↦ lowest_more p n k false (none k (omega arith) less) ∙ lowest_from p n (suc k) j less (omega arith) yes' (λ m a b. none m (omega arith) b)
-        | inr more ↦ absurd (omega arith)
-      ]
-    ]
+    let more : k < j → lowest p n (suc k) ≡ Some j = λ less. lowest_from p n (suc k) j less (omega arith) yes' (λ m a b. none m (omega arith) b) in
+    grind (arith, none k)
 
 lowest_nothing : (p : ℕ → Bool) (n k : ℕ) → ((m : ℕ) → k ≤ m → m < k + n → p m ≡ false) → lowest p n k ≡ None
 unfolding lowest
 lowest_nothing p zero k none = refl
 lowest_nothing p (suc n) k none =
-    lowest_more p n k false (none k (omega arith) (omega arith)) ∙ lowest_nothing p n (suc k) (λ m a b. none m (omega arith) (omega arith))
+    let more = lowest_nothing p n (suc k) (λ m a b. none m (omega arith) (omega arith)) in
+    grind (arith, none k)
 
 pub lowest_found : (p : ℕ → Bool) (n j : ℕ) → j < n → p j ≡ true → ((m : ℕ) → m < j → p m ≡ false) → lowest p n 0 ≡ Some j
 lowest_found p n j high yes' none = lowest_from p n 0 j (omega arith) (omega arith) yes' (λ m _ b. none m b)

@@ -6,22 +6,16 @@ ghost use Rattle.theory.specs.Sets.{SetsByAtoms};
 ghost use Rattle.theory.specs.Worked.{Worked};
 
 /// The tests on sets say what they are named after, atom by atom.
-pub fn sets_stand() -> u8
+pub fn sets_stand()
     ensures { SetsByAtoms }
-{
-    0
-}
+{}
 
 /// A name is borne exactly when one of the names is the same list of bytes.
-pub fn names_stand() -> u8
+pub fn names_stand()
     ensures { NamesByBytes }
-{
-    0
-}
+{}
 
 /// The worked verdicts, computed from the definitions.
-pub fn worked_verdicts_stand() -> u8
+pub fn worked_verdicts_stand()
     ensures { Worked }
-{
-    0
-}
+{}

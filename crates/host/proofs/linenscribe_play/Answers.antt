@@ -1,3 +1,4 @@
+-- What the exported play answers, and the laws of reports.
 use Rattle.std.proofs.Common.{length}
 use Rattle.host.proofs.Sound.{told_below}
 use Rattle.host.proofs.Told.{answers}

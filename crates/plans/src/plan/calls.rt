@@ -50,10 +50,11 @@ impl<B: Bank> Plan<B> {
         ensures after { plan_of self.new ≡ after_withdraw (plan_of self.old) place }
         ensures bank { self.new.bank ≡ self.old.bank }
     {
+        // By a rule of the project, a place that is not there is refused by `let .. else`, here and in reweigh.
         let Some(at) = index_of(place, self.table.rules.len()) else {
             return Err(Refusal::NoSuchPlace);
         };
-        let _withdrawn = self.table.rules.remove(at);
+        self.table.remove_rule(at);
         Ok(())
     }
 

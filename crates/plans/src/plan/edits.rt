@@ -14,7 +14,7 @@ pub(super) fn index_of(place: u8, len: usize) -> Option<usize>
     ensures { result ≡ index_of place len }
 {
     let at = usize::from(place).checked_sub(1)?;
-    if at < len { Some(at) } else { None }
+    (at < len).then_some(at)
 }
 
 // One weight of a rule that is lent is written in place.

@@ -1,13 +1,13 @@
 // The tests that enter makes of a rule, in their order.
-ghost use Rattle.std.specs.Prelude.{◌≡◌, ℕ, ◌<◌, List, length, vec_len, Some, None, MatchResult};
+ghost use Rattle.std.specs.Prelude.{◌≡◌, ℕ, ◌<◌, List, [], ◌∷◌, length, vec_len, Some, None, MatchResult};
 ghost use Rattle.plans.specs.PlanView.{plan_of};
-ghost use Rattle.plans.specs.Refusals.{element_place, refusal_in, refused_of, tally_place};
+ghost use Rattle.plans.specs.Refusals.{element_place, refusal_in, refusal_of, refused_of, tally_place};
 ghost use Rattle.plans.specs.Tests.{Gives};
 ghost use Rattle.rules.specs.Views.{element_of, rule_of, tally_of};
-ghost use Rattle.theory.specs.Calls.{Refused as Said, Test, at_most_from_zero, element_tests, enter_refusal, field_tests, first_applying, rule_tests, tally_tests, tests_from};
+ghost use Rattle.theory.specs.Calls.{Refused as Said, Test, at_most_from_zero, element_tests, enter_refusal, field_tests, first_applying, refuse_if, rule_tests, tally_tests, tests_from};
 
 use crate::plan::{MAX_RULES, Plan};
-use crate::refusal::{Place, Refusal, Refused};
+use crate::refusal::{Refusal, Refused, Tested};
 use banks::Bank;
 use rules::{Element, FitRule, MAX_ELEMENTS, MAX_TALLIES, Rule, Tally};
 
@@ -22,8 +22,7 @@ pub(super) fn is_near(far: u32, value: i32) -> bool
     value.unsigned_abs() <= far
 }
 
-// The first refusal that the check of an item gives. It is passed the item's place, which counts from 1; those of fewer
-// than 255 items fit.
+// The first refusal that the check of an item gives. It is passed the item and its place, which counts from 1.
 fn check_each<T, F: Fn(&T, u8) -> Result<(), Refused>>(items: &[T], check: F) -> Result<(), Refused>
     requires places { length items.now < 255 }
     requires callable { F.IsAlwaysCallable check }
@@ -35,40 +34,38 @@ fn check_each<T, F: Fn(&T, u8) -> Result<(), Refused>>(items: &[T], check: F) ->
     Ok(())
 }
 
-fn check_element(atoms: u8, element: &Element, place: Place) -> Result<(), Refused>
-    ensures { refusal_in result ≡ first_applying (element_tests atoms (tally_place place) (element_place place) (element_of element.now)) }
+// A test: whether it applies, and what is refused then.
+fn refuse_if(applies: bool, refusal: Refusal, tested: Tested) -> Result<(), Refused>
+    ensures { refusal_in result ≡ first_applying (refuse_if applies (refusal_of refusal) (tally_place tested) (element_place tested) ∷ []) }
 {
-    let refusal = if !(element.ins.is_within(atoms) && element.outs.is_within(atoms)) {
-        Refusal::UnnamedMark
-    } else if !is_near(MAX_WEIGHT, element.weight) {
-        Refusal::HeavyWeight
+    if applies {
+        Err(Refused { refusal, tested })
     } else {
-        return Ok(());
-    };
-    Err(Refused { refusal, place })
+        Ok(())
+    }
+}
+
+fn check_element(atoms: u8, element: &Element, tested: Tested) -> Result<(), Refused>
+    ensures { refusal_in result ≡ first_applying (element_tests atoms (tally_place tested) (element_place tested) (element_of element.now)) }
+{
+    let named = element.ins.is_within(atoms) && element.outs.is_within(atoms);
+    let light = is_near(MAX_WEIGHT, element.weight);
+    refuse_if(!named, Refusal::UnnamedMark, tested)?;
+    refuse_if(!light, Refusal::HeavyWeight, tested)
 }
 
 // The tally's own fields.
 fn check_fields<B: Bank>(bank: &B, tally: &Tally, place: u8) -> Result<(), Refused>
     ensures { refusal_in result ≡ first_applying (field_tests (B.meaning bank.now) place (tally_of tally.now)) }
 {
-    let refusal = if tally.kind == 0 || tally.kind > bank.size() {
-        Refusal::NoKind
-    } else if !tally.relation.is_known() {
-        Refusal::NoRelation
-    } else if !tally.sign.is_known() {
-        Refusal::NoSign
-    } else if !is_near(MAX_BOUND, tally.bound) {
-        Refusal::FarBound
-    } else if tally.elements.len() > usize::from(MAX_ELEMENTS) {
-        Refusal::TooManyElements
-    } else {
-        return Ok(());
-    };
-    Err(Refused {
-        refusal,
-        place: Place::Tally { tally: place },
-    })
+    let tested = Tested::Tally { tally: place };
+    let kind = tally.kind != 0 && tally.kind <= bank.size();
+    let few = tally.elements.len() <= usize::from(MAX_ELEMENTS);
+    refuse_if(!kind, Refusal::NoKind, tested)?;
+    refuse_if(!tally.relation.is_known(), Refusal::NoRelation, tested)?;
+    refuse_if(!tally.sign.is_known(), Refusal::NoSign, tested)?;
+    refuse_if(!is_near(MAX_BOUND, tally.bound), Refusal::FarBound, tested)?;
+    refuse_if(!few, Refusal::TooManyElements, tested)
 }
 
 fn check_tally<B: Bank>(bank: &B, atoms: u8, tally: &Tally, place: u8) -> Result<(), Refused>
@@ -79,7 +76,7 @@ fn check_tally<B: Bank>(bank: &B, atoms: u8, tally: &Tally, place: u8) -> Result
         check_element(
             atoms,
             item,
-            Place::Element {
+            Tested::Element {
                 tally: place,
                 element,
             },
@@ -94,14 +91,9 @@ fn check_sets(atoms: u8, rule: &Rule) -> Result<(), Refused>
     let named = rule.head.is_within(atoms)
         && rule.must.is_within(atoms)
         && rule.must_not.is_within(atoms);
-    let refusal = if !named {
-        Refusal::UnnamedMark
-    } else if rule.tallies.len() > usize::from(MAX_TALLIES) {
-        Refusal::TooManyTallies
-    } else {
-        return Ok(());
-    };
-    Err(Refused::from(refusal))
+    let few = rule.tallies.len() <= usize::from(MAX_TALLIES);
+    refuse_if(!named, Refusal::UnnamedMark, Tested::Rule)?;
+    refuse_if(!few, Refusal::TooManyTallies, Tested::Rule)
 }
 
 impl<B: Bank> Plan<B> {

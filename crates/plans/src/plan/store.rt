@@ -3,7 +3,7 @@ ghost use Rattle.std.specs.Prelude.{◌≡◌, suc, ◌<◌, [], ◌∷◌, ◌+
 ghost use Rattle.plans.specs.PlanView.{table_of, text_of};
 ghost use Rattle.plans.specs.Refusals.{refusal_of};
 ghost use Rattle.rules.specs.Views.{rule_of};
-ghost use Rattle.theory.specs.Calls.{name_refusal, new_plan};
+ghost use Rattle.theory.specs.Calls.{name_refusal, new_plan, withdrawn};
 
 use crate::plan::names::is_borne;
 use crate::plan::{MAX_ATOMS, MAX_RULES, Name, Table};
@@ -55,5 +55,13 @@ impl Table {
     {
         self.rules.push_reserved(kept);
         self.rules.len() as u8
+    }
+
+    // The rule at this index goes.
+    pub(super) fn remove_rule(&mut self, at: usize)
+        requires { at < vec_len self.old.rules }
+        ensures { table_of self.new ≡ record { names = (table_of self.old).names; rules = withdrawn (suc at) (table_of self.old).rules } }
+    {
+        let _withdrawn = self.rules.remove(at);
     }
 }

@@ -1,3 +1,4 @@
+-- Sets by their atoms.
 use Rattle.theory.proofs.SetLaws.{sets_by_atoms}
 use Rattle.theory.proofs.sets_stand.Goals as goal
 

@@ -1,3 +1,4 @@
+-- Each tally of a fit rule is fit, and is a tally of the definitions.
 use Rattle.std.proofs.Common.{◌≡◌, true, rules, tests, sym, ◌∙◌}
 use Rattle.std.proofs.lemmas.Iterator.{YieldsList-from_slice}
 use Rattle.std.proofs.lemmas.Iterator.Adapters.{serves_from_places}

@@ -1,3 +1,4 @@
+-- The next subset.
 use Rattle.std.proofs.Common.{rules}
 use Rattle.sets.proofs.Steps.{next_is}
 use Rattle.sets.proofs.AtomSet.next_inside.Goals as goal

@@ -7,4 +7,4 @@ abbrev pub invariant-loop-self : goal.invariant-loop-self
 invariant-loop-self g l = SoFar g.B.Bank.meaning l.initial.self l.initial.report l.self l.report
 
 abbrev pub decreases-loop-self : goal.decreases-loop-self
-decreases-loop-self g l = length l.self.reader.rest.now
+decreases-loop-self g l = length l.self.reader

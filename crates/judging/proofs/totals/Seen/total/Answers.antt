@@ -1,3 +1,4 @@
+-- A total, element by element.
 use Rattle.std.proofs.Common.{true, false, get_or, ◌∙◌, arith, w32, SFits, rules}
 use Rattle.std.proofs.lemmas.Int.{ints, to_z-of_z}
 use Rattle.judging.proofs.Sums.{blank, all_passed, light_at, one_more}

@@ -1,3 +1,4 @@
+-- The sum is the total of the elements so far, and near enough for a step.
 use Rattle.theory.specs.Verdicts.{counts_at}
 use Rattle.judging.proofs.Sums.{SoFar}
 use Rattle.judging.proofs.totals.Seen.total.Given as goal

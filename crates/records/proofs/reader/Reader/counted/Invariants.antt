@@ -8,5 +8,5 @@ abbrev pub invariant-loop : goal.invariant-loop
 invariant-loop g l = record {
   as_many : vec_len l.parts ≡ l.counter;
   room : l.count ≤ vec_capacity l.parts;
-  all : with_more g.T.Part.reads (map g.T.Part.view (vec_items l.parts)) (l.count - l.counter) l.self.rest.now ≡ repeated g.T.Part.reads l.count l.initial.self.rest.now;
+  all : with_more g.T.Part.reads (map g.T.Part.view (vec_items l.parts)) (l.count - l.counter) l.self ≡ repeated g.T.Part.reads l.count l.initial.self;
 }

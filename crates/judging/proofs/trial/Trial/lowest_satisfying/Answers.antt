@@ -1,3 +1,4 @@
+-- The lowest subset, one subset further.
 use Rattle.std.proofs.Common.{◌<◌, sym, arith}
 use Rattle.std.proofs.lemmas.Bool.{and_from, both_ways}
 use Rattle.std.proofs.lemmas.Bool.Decides.{nat_tests}
@@ -5,7 +6,7 @@ use Rattle.theory.specs.Sets.{has, contains}
 use Rattle.theory.specs.Verdicts.{lowest_inside}
 use Rattle.theory.proofs.SetLaws.{contains_from, contains_le, has_none}
 use Rattle.theory.proofs.Searches.{lowest_found}
-use Rattle.judging.proofs.cases.Case.lowest_satisfying.Goals as goal
+use Rattle.judging.proofs.trial.Trial.lowest_satisfying.Goals as goal
 
 pub loop-subset-init : goal.loop-subset-init
 loop-subset-init g c =

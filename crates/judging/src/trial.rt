@@ -14,7 +14,7 @@ use sets::{AtomSet, Inside};
 
 /// A candidate to be judged, under a reading, against rules over a bank.
 #[derive(Drop)]
-pub struct Case<'a, B, R> {
+pub struct Trial<'a, B, R> {
     pub bank: &'a B,
     pub reading: &'a R,
     pub candidate: AtomSet,
@@ -22,7 +22,7 @@ pub struct Case<'a, B, R> {
     ghost few: { length rules.now ≤ 64 },
 }
 
-impl<B: Bank, R: Reading> Case<'_, B, R> {
+impl<B: Bank, R: Reading> Trial<'_, B, R> {
     /// The verdict on the candidate.
     pub fn verdict(&self) -> Verdict
         ensures { verdict_of result ≡ verdict (B.meaning self.now.bank.now) (R.meaning self.now.reading.now) (rules_of self.now.rules.now) self.now.candidate.0 }

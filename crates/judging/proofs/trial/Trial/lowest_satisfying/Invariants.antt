@@ -1,8 +1,9 @@
+-- The subset is inside the candidate, and nothing below it satisfies the reduct.
 use Rattle.std.proofs.Common.{◌≡◌, ℕ, ◌-◌, ◌<◌, true, false}
 use Rattle.theory.specs.Sets.{contains}
 use Rattle.theory.specs.Verdicts.{fits_inside}
 use Rattle.rules.specs.Kept.{rules_of}
-use Rattle.judging.proofs.cases.Case.lowest_satisfying.Given as goal
+use Rattle.judging.proofs.trial.Trial.lowest_satisfying.Given as goal
 
 -- the subset is inside the candidate, and nothing below it is inside and satisfies the reduct
 abbrev pub invariant-loop-subset : goal.invariant-loop-subset

@@ -1,10 +1,11 @@
+-- The index of the rule, as a place.
 use Rattle.std.proofs.Common.{◌≡◌, suc, rules, tests, sym, ap, ◌∙◌}
 use Rattle.std.specs.Option.{option_map}
 use Rattle.std.proofs.lemmas.Iterator.{YieldsList-from_slice}
 use Rattle.std.proofs.lemmas.Iterator.Search.{position_from_yields_List}
 use Rattle.theory.specs.Verdicts.{first_broken}
 use Rattle.judging.proofs.Places.{position-map}
-use Rattle.judging.proofs.cases.Case.first_broken.Goals as goal
+use Rattle.judging.proofs.trial.Trial.first_broken.Goals as goal
 
 pub returns : goal.returns
 unfolding first_broken
