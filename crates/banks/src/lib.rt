@@ -135,6 +135,17 @@ impl<A: Bank, B: Bank> Bank for Pair<A, B> {
     }
 }
 
+// A step of the bank below with the signs changed, and changed back. Its proof is by hand; that of the mirror's own step is
+// found by the check, so that a wrong one is told as the promise that it breaks.
+fn mirrored_step<B: Bank>(below: &B, kind: u8, total: i32, weight: i32) -> i32
+    requires kinds { Kind (B.meaning below.now) kind }
+    requires totals { Near total }
+    requires weights { Light weight }
+    ensures { result ≡ (mirrored (B.meaning below.now)).step kind total weight }
+{
+    -below.step(kind, -total, -weight)
+}
+
 /// A bank with the signs of its totals and weights changed.
 #[derive(Clone, Copy, Debug, Default)]
 pub struct Mirror<B> {
@@ -155,7 +166,7 @@ impl<B: Bank> Bank for Mirror<B> {
     }
 
     fn step(&self, kind: u8, total: i32, weight: i32) -> i32 {
-        -self.below.step(kind, -total, -weight)
+        mirrored_step(&self.below, kind, total, weight)
     }
 }
 

@@ -100,6 +100,10 @@ fn file_of(heap: Global, words: &str) -> Result<Vec<u8>, LineFault> {
     let mut file = Vec::new(heap);
     for text in words.split_whitespace() {
         let Word { digits, count } = Word::try_from(text)?;
+        // Before `decode` asks for room: a word that is no hexadecimal takes none.
+        if !digits.as_bytes().iter().all(u8::is_ascii_hexdigit) {
+            return Err(LineFault::BadForm);
+        }
         let bytes = hex::decode(heap, digits)?;
         append(&mut file, bytes.as_slice(), count)?;
     }

@@ -9,6 +9,7 @@ use Rattle.records.specs.declared.fault.ReaderFault.{ReaderFault}
 use Rattle.records.specs.declared.fault.ReaderFault.TheVariants.{NoMemory}
 use Rattle.files.specs.declared.fault.FileFault.{FileFault}
 use Rattle.files.specs.declared.fault.FileFault.TheVariants.{Reader, Plan as OfPlan}
+use Rattle.files.specs.declared.fault.Located.{Located}
 use Rattle.files.specs.declared.line.Answer.{Answer}
 use Rattle.files.specs.declared.play.PlayFault.{PlayFault}
 use Rattle.files.specs.declared.play.PlayFault.TheVariants.{InputTooLong, ReportFull, NoMemory as OutOfMemory, Unreadable}
@@ -51,6 +52,22 @@ abbrev pub Steps : {B : Type 0} → Bank → Result Answer FileFault → Session
 Steps bank (Ok answer) before after = Answers bank before after (Ok (said_of answer))
 Steps bank (Err (OfPlan refused)) before after = Answers bank before after (Err (refused_of refused))
 Steps bank (Err (Reader fault)) before after = (fault ≢ NoMemory) → unread fault ≡ step_of bank before
+
+-- a refused record: the play goes on after the line of the plan's refusal, and ends after that of the reader's fault; want of
+-- memory has no line, and nothing else is told as that
+abbrev pub FaultPut : Result (Unit {0}) PlayFault → Located → Report → Report → Type 0
+FaultPut r l before after = elim l.fault [
+  | Reader f ↦ elim r [
+    | Ok done ↦ ⊥
+    | Err e ↦ elim e [
+      | InputTooLong ↦ ⊥
+      | ReportFull ↦ ⊥
+      | OutOfMemory ↦ (f ≡ NoMemory) × Wrote before after []
+      | Unreadable offset fault ↦ (offset ≡ l.offset) × (fault ≡ f) × (f ≢ NoMemory) × Wrote before after (unread_line l.offset f)
+    ]
+  ]
+  | OfPlan f ↦ (r ≡ Ok tt) × Wrote before after (line_at l.offset (Err (refused_of f)))
+]
 
 -- a record that was read: its call's line was written
 pub record GoesOn {B : Type 0} (bank : Bank) (before after : Session B) (report report' : Report) : Type 0 where

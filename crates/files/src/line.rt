@@ -2,10 +2,13 @@
 ghost use Rattle.std.specs.Prelude.{◌≡◌, ◌<◌};
 ghost use Rattle.files.specs.Lines.{eight_hex, element_tested, hex_digit, located_line, located_text, said_line, said_of, tally_tested, two_digits};
 ghost use Rattle.files.specs.Reports.{HasRoom, Wrote};
+ghost use Rattle.files.specs.Turns.{FaultPut};
 
 use crate::fault::{FileFault, Located};
+use crate::play::PlayFault;
 use crate::report::Report;
 use judging::Verdict;
+use records::fault::ReaderFault;
 
 /// What a call answers where it is not refused.
 #[derive(Clone, Copy, Debug, PartialEq, Eq)]
@@ -85,5 +88,21 @@ impl Report<'_> {
         ensures { Wrote self.old self.new (located_line located) }
     {
         self.put_line(b"NO ", &refusal_text(located));
+    }
+
+    /// Writes the line of a refused record, which ends the play if the reader gave the fault. Want of memory has no line, and
+    /// nothing else is told as that.
+    pub(crate) fn put_fault(&mut self, located: Located) -> Result<(), PlayFault>
+        requires { HasRoom self.old }
+        ensures { FaultPut result located self.old self.new }
+    {
+        if let FileFault::Reader(ReaderFault::NoMemory) = located.fault {
+            return Err(PlayFault::NoMemory);
+        }
+        self.put_refusal(located);
+        match located.fault {
+            FileFault::Reader(fault) => Err(PlayFault::Unreadable(located.offset, fault)),
+            FileFault::Plan(_) => Ok(()),
+        }
     }
 }

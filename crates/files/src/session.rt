@@ -8,7 +8,6 @@ use crate::play::PlayFault;
 use crate::report::Report;
 use banks::Bank;
 use plans::plan::Plan;
-use records::fault::ReaderFault;
 use records::reader::Reader;
 use std::alloc::Global;
 
@@ -62,6 +61,7 @@ impl<'a, B: Bank> Session<'a, B> {
     }
 
     // One record: its call is made, and its line is written at the report's end.
+    #[tactic(auto, using(crate::proofs::Stepped::fault_played))]
     fn play_record(&mut self, report: &mut Report) -> Result<(), PlayFault>
         ensures { RecordPlayed (B.meaning self.old.plan.bank) result self.old self.new report.old report.new }
     {
@@ -74,14 +74,7 @@ impl<'a, B: Bank> Session<'a, B> {
                 report.put_answer(answer);
                 Ok(())
             }
-            Err(FileFault::Reader(ReaderFault::NoMemory)) => Err(PlayFault::NoMemory),
-            Err(fault) => {
-                report.put_refusal(Located { offset, fault });
-                match fault {
-                    FileFault::Reader(fault) => Err(PlayFault::Unreadable(offset, fault)),
-                    FileFault::Plan(_) => Ok(()),
-                }
-            }
+            Err(fault) => report.put_fault(Located { offset, fault }),
         }
     }
 

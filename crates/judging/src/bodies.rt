@@ -34,6 +34,9 @@ impl<B: Bank> Plain<'_, B> {
     }
 
     /// Whether the set holds the rule's body.
+    // Inlined: it is asked of the candidate for many subsets, and judging rules without tallies takes about twice the time
+    // without.
+    #[inline(always)]
     pub fn holds_body(&self, kept: &FitRule) -> bool
         ensures { result ≡ holds_body (B.meaning self.now.bank.now) self.now.set.0 (rule_of kept.now.rule) }
     {

@@ -22,6 +22,8 @@ pub struct Seen<'a, B, R> {
 
 impl<B: Bank, R: Reading> Seen<'_, B, R> {
     /// The total of the elements that count, stepped through in their written order.
+    // Inlined, as `relation_holds` and `Plain::holds_body` are: the search over subsets then makes no call for a rule.
+    #[inline(always)]
     fn total(&self, kind: u8, elements: &[Element]) -> i32
         requires kinds { Kind (B.meaning self.now.bank.now) kind }
         requires few { length elements.now ≤ 12 }

@@ -19,7 +19,7 @@ none_all (t ∷ ts) h = step t.applies h (none_all ts)
     step true e more = absurd cc
     step false e more = (refl, more e)
 
-none_joined : {A : Type 0} (xs ys : List (Test A)) → None ≡ first_applying (xs ++ ys) → (None ≡ first_applying xs) × (None ≡ first_applying ys)
+pub none_joined : {A : Type 0} (xs ys : List (Test A)) → None ≡ first_applying (xs ++ ys) → (None ≡ first_applying xs) × (None ≡ first_applying ys)
 none_joined xs ys h = step (first_applying xs) (h ∙ first_join xs ys)
   where
     step : (o : Option _) → None ≡ option_or o (first_applying ys) → (None ≡ o) × (None ≡ first_applying ys)

@@ -21,6 +21,7 @@ pub const MAX_RULES: usize = 64;
 struct Name {
     text: ArrayVec<u8, 16>,
     ghost some: { 1 ≤ array_vec_len text },
+    ghost short: { array_vec_len text ≤ 16 },
 }
 
 /// The names of the atoms, in the order of naming, and the rules, in their places. Room for all of them is reserved

@@ -64,7 +64,11 @@ impl Part for Element {
 
     ghost reads = { read_element };
 
-    fn read(reader: &mut Reader<'_>, _heap: Global) -> Result<Element, ReaderFault> {
+    // An element asks for no memory: whatever it answers is what its bytes read as.
+    fn read(reader: &mut Reader<'_>, _heap: Global) -> Result<Element, ReaderFault>
+        ensures part { Reads element_of result reader.new (read_element reader.old) }
+        ensures exact { read_in element_of result reader.new ≡ read_element reader.old }
+    {
         reader.expect(Mark::Element)?;
         let ins = reader.set()?;
         let outs = reader.set()?;

@@ -51,7 +51,7 @@ next_least (suc w) i j k fits e f above =
     let p = pow-suc 2 w in
     grind (arith, step i x (j / 2 + (2 ^ w - i / 2)), step i x (j / 2 + (2 ^ w - 1 - i / 2)), flat w (i / 2) (j / 2) (omega arith) h.0, next_least w (i / 2) (j / 2) (k / 2) (omega arith) h.0 m.0)
 
-and_inside : (x i : ℕ) → contains i (bit_and x i) ≡ true
+pub and_inside : (x i : ℕ) → contains i (bit_and x i) ≡ true
 and_inside x i = contains_from i (bit_and x i) (λ n h. grind (arith, nat_tests, has_and x i n))
 
 -- the number that the code makes
@@ -66,3 +66,10 @@ next_is i j fits c proper =
       above = omega (arith, same, next_more 32 i j fits e below);
       first = λ m d lower. grind (arith, same, next_least 32 i j m fits e (inside_is i m d));
     }
+
+-- two of its facts, for a search
+pub next_above : (i j : ℕ) → i < 4294967296 → contains i j ≡ true → (j ≡ i → ⊥) → j < bit_and ((j + (4294967296 - i)) % 4294967296) i
+next_above i j fits c proper = (next_is i j fits c proper).above
+
+pub next_first : (i j m : ℕ) → i < 4294967296 → contains i j ≡ true → (j ≡ i → ⊥) → contains i m ≡ true → m < bit_and ((j + (4294967296 - i)) % 4294967296) i → m ≤ j
+next_first i j m fits c proper d lower = (next_is i j fits c proper).first m d lower

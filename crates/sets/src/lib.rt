@@ -35,6 +35,7 @@ impl AtomSet {
     }
 
     /// The subset of `whole` that follows this one in ascending order of their numbers.
+    #[tactic(auto, using(crate::proofs::Steps::and_inside, crate::proofs::Steps::next_above, crate::proofs::Steps::next_first))]
     pub fn next_inside(self, whole: AtomSet) -> AtomSet
         requires inside { contains whole.0 self.0 ≡ true }
         requires proper { self.0 ≢ whole.0 }

@@ -6,12 +6,12 @@ use Rattle.theory.specs.Readings.{LawfulReading, flp, ferraris}
 use Rattle.theory.proofs.SetLaws.{contains_all, contains_from, misses_none, misses_from}
 
 -- sets with the same marks in m contain, and miss, it alike
-contains_alike : (s r m : ℕ) → ((n : ℕ) → has m n ≡ true → has s n ≡ has r n) → contains s m ≡ contains r m
+pub contains_alike : (s r m : ℕ) → ((n : ℕ) → has m n ≡ true → has s n ≡ has r n) → contains s m ≡ contains r m
 contains_alike s r m f =
     same_from_decides (contains s m) (contains r m)
     (λ h. contains_from r m (λ n k. sym (f n k) ∙ contains_all s m n h k), λ h. contains_from s m (λ n k. f n k ∙ contains_all r m n h k)) (λ h. h, λ h. h)
 
-misses_alike : (s r m : ℕ) → ((n : ℕ) → has m n ≡ true → has s n ≡ has r n) → misses s m ≡ misses r m
+pub misses_alike : (s r m : ℕ) → ((n : ℕ) → has m n ≡ true → has s n ≡ has r n) → misses s m ≡ misses r m
 misses_alike s r m f =
     same_from_decides (misses s m) (misses r m)
     (λ h. misses_from r m (λ n k l. misses_none s m n h k (f n k ∙ l)), λ h. misses_from s m (λ n k l. misses_none r m n h k (sym (f n k) ∙ l))) (λ h. h, λ h. h)

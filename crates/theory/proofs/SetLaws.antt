@@ -6,7 +6,7 @@ use Rattle.std.proofs.lemmas.Bool.{eqb-true, eq-eqb, lt-ltb}
 use Rattle.std.proofs.lemmas.Bool.Decides.{nat_tests}
 use Rattle.theory.specs.Sets.{has, contains, misses, within, SetsByAtoms}
 
-has_suc : (s n : ℕ) → has s (suc n) ≡ has (s / 2) n
+pub has_suc : (s n : ℕ) → has s (suc n) ≡ has (s / 2) n
 unfolding has
 has_suc s n = ap (λ (x : ℕ). eqb x 1) (bit_at-suc s n)
 
@@ -19,12 +19,12 @@ unfolding has
 has_none n = ap (λ (x : ℕ). eqb x 1) (bit_at-zero n)
 
 -- sets with the same members are one number
-ext : (a b : ℕ) → ((n : ℕ) → has a n ≡ has b n) → a ≡ b
+pub ext : (a b : ℕ) → ((n : ℕ) → has a n ≡ has b n) → a ≡ b
 unfolding has
 ext a b h = same_from_bits a b (λ n. grind (arith, nat_tests, h n))
 
 -- a number below 2 ^ k has no member from k on
-has_high : (s k n : ℕ) → s < 2 ^ k → k ≤ n → has s n ≡ false
+pub has_high : (s k n : ℕ) → s < 2 ^ k → k ≤ n → has s n ≡ false
 unfolding has
 has_high s k n h l = ap (λ (x : ℕ). eqb x 1) (bit_at_above s k n h l)
 
@@ -54,7 +54,7 @@ pub contains_self : (s : ℕ) → contains s s ≡ true
 contains_self s = contains_from s s (λ n h. h)
 
 -- `within`, by members
-within_below : (k s n : ℕ) → within k s ≡ true → has s n ≡ true → n < k
+pub within_below : (k s n : ℕ) → within k s ≡ true → has s n ≡ true → n < k
 unfolding within
 within_below k s n w h = grind (arith, nat_tests, has_high s k n)
 
@@ -62,7 +62,7 @@ below_within : (k s : ℕ) → ((n : ℕ) → has s n ≡ true → n < k) → s 
 below_within zero s f = omega (arith, ext s 0 (λ n. grind (arith, has_none n, f n)))
 below_within (suc k) s f = omega (arith, pow-suc 2 k, below_within k (s / 2) (λ n h. omega (arith, f (suc n) (has_suc s n ∙ h))))
 
-within_from : (k s : ℕ) → ((n : ℕ) → has s n ≡ true → n < k) → within k s ≡ true
+pub within_from : (k s : ℕ) → ((n : ℕ) → has s n ≡ true → n < k) → within k s ≡ true
 unfolding within
 within_from k s f = lt-ltb s (2 ^ k) (below_within k s f)
 

@@ -6,7 +6,7 @@ ghost use Rattle.rules.specs.Kept.{rules_of};
 ghost use Rattle.rules.specs.Views.{rule_of};
 ghost use Rattle.theory.specs.Calls.{after_enter, after_name, after_reweigh, after_withdraw, enter_answer, name_answer, new_plan, reweigh_answer, withdraw_answer};
 
-use crate::plan::edits::{index_of, reweigh_element};
+use crate::plan::edits::index_of;
 use crate::plan::{Plan, Table};
 use crate::refusal::{Refusal, Refused};
 use banks::Bank;
@@ -64,10 +64,7 @@ impl<B: Bank> Plan<B> {
         ensures after { plan_of self.new ≡ after_reweigh (plan_of self.old) rule tally element weight }
         ensures bank { self.new.bank ≡ self.old.bank }
     {
-        let Some(rule_at) = index_of(rule, self.table.rules.len()) else {
-            return Err(Refusal::NoSuchPlace);
-        };
-        reweigh_element(&mut self.table.rules[rule_at], tally, element, weight)
+        self.table.reweigh(rule, tally, element, weight)
     }
 
     /// The bank that all its calls use.

@@ -1,10 +1,11 @@
-// The table of a plan: names and rules put at their ends.
+// The table of a plan: names and rules put at their ends, and rules changed or taken out.
 ghost use Rattle.std.specs.Prelude.{◌≡◌, suc, ◌<◌, [], ◌∷◌, ◌++◌, length, Some, None, vec_len, IfOk, MatchResult};
 ghost use Rattle.plans.specs.PlanView.{table_of, text_of};
-ghost use Rattle.plans.specs.Refusals.{refusal_of};
+ghost use Rattle.plans.specs.Refusals.{edit_answer_of, refusal_of};
 ghost use Rattle.rules.specs.Views.{rule_of};
-ghost use Rattle.theory.specs.Calls.{name_refusal, new_plan, withdrawn};
+ghost use Rattle.theory.specs.Calls.{after_reweigh, name_refusal, new_plan, reweigh_answer, withdrawn};
 
+use crate::plan::edits::{index_of, reweigh_element};
 use crate::plan::names::is_borne;
 use crate::plan::{MAX_ATOMS, MAX_RULES, Name, Table};
 use crate::refusal::Refusal;
@@ -63,5 +64,23 @@ impl Table {
         ensures { table_of self.new ≡ record { names = (table_of self.old).names; rules = withdrawn (suc at) (table_of self.old).rules } }
     {
         let _withdrawn = self.rules.remove(at);
+    }
+
+    // The rule at this place is lent, and one of its weights is written. The proof is by hand; that of the plan's call is found
+    // by the check, so that a wrong one is told as the promise that it breaks.
+    pub(super) fn reweigh(
+        &mut self,
+        rule: u8,
+        tally: u8,
+        element: u8,
+        weight: i32,
+    ) -> Result<(), Refusal>
+        ensures answer { edit_answer_of result ≡ reweigh_answer (table_of self.old) rule tally element weight }
+        ensures after { table_of self.new ≡ after_reweigh (table_of self.old) rule tally element weight }
+    {
+        let Some(rule_at) = index_of(rule, self.rules.len()) else {
+            return Err(Refusal::NoSuchPlace);
+        };
+        reweigh_element(&mut self.rules[rule_at], tally, element, weight)
     }
 }

@@ -6,17 +6,17 @@ use borrow.Author.Differences.{ints}
 use lib.IntN.{ℤ, neg_ℤ, nat_abs}
 use Rattle.theory.specs.Banks.{Light, Near}
 use Rattle.banks.proofs.Turned.{turned}
-use Rattle.banks.proofs.MirrorBank.step.Goals as goal
+use Rattle.banks.proofs.mirrored_step.Goals as goal
 
 -- the step below is from the total and the weight with their signs changed
-stepped : (g : _) (c : goal.After-step g) → (c.step.result ≡ (g.B.Bank.meaning c.args.self.now.below).step c.args.kind (neg_ℤ c.args.total) (neg_ℤ c.args.weight)) × (nat_abs c.step.result ≤ 25000001)
+stepped : (g : _) (c : goal.After-step g) → (c.step.result ≡ (g.B.Bank.meaning c.args.below.now).step c.args.kind (neg_ℤ c.args.total) (neg_ℤ c.args.weight)) × (nat_abs c.step.result ≤ 25000001)
 stepped g c =
-    let l = g.met.B.Bank.lawful c.args.self.now.below in
+    let l = g.met.B.Bank.lawful c.args.below.now in
     let t = turned c.args.total (omega arith) in
     let w = turned c.args.weight (omega arith) in
     let n : Near (neg_ℤ c.args.total) = omega (arith, ints) in
     let q : Light (neg_ℤ c.args.weight) = omega (arith, ints) in
-    let e = c.step.ensures ∙ ap₂ (λ (z v : ℤ). (g.B.Bank.meaning c.args.self.now.below).step c.args.kind z v) t w in
+    let e = c.step.ensures ∙ ap₂ (λ (z v : ℤ). (g.B.Bank.meaning c.args.below.now).step c.args.kind z v) t w in
     (e, omega (arith, ints, e, l.short_step c.args.kind (neg_ℤ c.args.total) (neg_ℤ c.args.weight) c.requires.kinds q n))
 
 pub overflow_sub-result : goal.overflow_sub-result
